@@ -1,0 +1,110 @@
+-- The laws of a line: a well-formed line is the line of its bytes, and the line of bytes is well formed.
+-- Assumes nothing.
+use mathlib.Core.Path.{_≡_, refl, sym, ap, _∙_}
+use mathlib.Core.Bool.{Bool, true, false, cond}
+use mathlib.Core.List.{List, [], _∷_, _++_, append-nil}
+use Prim.Native.Nat.{ℕ, zero, suc, _+_, _*_, _-_, _/_, _%_, _<_, _≤_}
+use native.Mathlib.Numerals.{add-one}
+use native.Mathlib.Omega.{arith}
+use borrow.Author.Tests.{lt-ltb, le-ltb, ltb-true, ltb-false, eq-eqb, ne-eqb, eqb-true, eqb-false}
+use lib.Dec.{ltb, eqb}
+use lib.ListN.{length, take, drop, getD, length-append, take-append-drop, drop-of-length-le}
+use lib.Seq.{getD-at, take-at, slice, slice-cons, slice-empty, length-take-le, drop-cons}
+use Rattle.frame.specs.Hex.{isDigit, unhex, hexOf, allDigits, Bytes}
+use Rattle.frame.specs.Line.{lineEnd, lineWithin}
+use Rattle.frame.specs.declared.line.Line.{Line}
+use Rattle.frame.specs.declared.line.Line.the-variants.{Frame, Malformed}
+use Rattle.frame.proofs.HexLaws.{by-test, false-true, length-hexOf, digits-hexOf, unhex-hexOf, hexOf-unhex, bytes-unhex}
+
+-- ---- a scan of digits, from index i up to index m
+
+pub digits-step : (l : List ℕ) (m i : ℕ) → i < m → m ≤ length l → isDigit (getD l i 0) ≡ true → allDigits (slice i m l) ≡ allDigits (slice (i + 1) m l)
+unfolding allDigits
+digits-step l m i h k t = rw (slice-cons i m l 0 h k, t, add-one)
+
+pub digits-stop : (l : List ℕ) (m i : ℕ) → i < m → m ≤ length l → isDigit (getD l i 0) ≡ false → allDigits (slice i m l) ≡ false
+unfolding allDigits
+digits-stop l m i h k t = rw (slice-cons i m l 0 h k, t)
+
+pub digits-end : (l : List ℕ) (m i : ℕ) → m ≤ i → i ≤ m → allDigits (slice i m l) ≡ true
+unfolding allDigits
+digits-end l m i h k = let e : i ≡ m = omega arith in rw (e, slice-empty)
+
+-- ---- the line of bytes
+
+-- the line that carries these bytes
+abbrev pub lineOfBytes : List ℕ → List ℕ
+lineOfBytes bs = hexOf bs ++ lineEnd ∷ []
+
+pub length-line : (bs : List ℕ) → length (lineOfBytes bs) ≡ 2 * length bs + 1
+length-line bs = rw (length-append, length-hexOf)
+
+pub unhex-line : (bs : List ℕ) → Bytes bs → unhex (lineOfBytes bs) ≡ bs
+unfolding unhex
+unhex-line bs h = unhex-hexOf bs (lineEnd ∷ []) h ∙ append-nil bs
+
+-- it is well formed, where the limit allows it
+pub line-is-frame : (most : ℕ) (bs : List ℕ) → Bytes bs → 2 * length bs ≤ most → lineWithin most (lineOfBytes bs) ≡ Frame (length bs)
+unfolding lineWithin
+line-is-frame most bs h l =
+    let n : length (lineOfBytes bs) ≡ 2 * length bs + 1 = length-line bs in
+    let m : 2 * length bs + 1 - 1 ≡ 2 * length bs = omega arith in
+    let half : 2 * length bs / 2 ≡ length bs = omega arith in
+    let odd : (2 * length bs + 1) % 2 ≡ 0 → ⊥ = λ e. omega arith in
+    simp (
+      n,
+      m,
+      ne-eqb _ _ odd,
+      le-ltb most (2 * length bs) l,
+      getD-at (hexOf bs) 10 [] 0 (2 * length bs) (length-hexOf bs),
+      take-at (hexOf bs) (10 ∷ []) (2 * length bs) (length-hexOf bs),
+      digits-hexOf bs h,
+      half,
+    )
+
+-- ---- and back: a well-formed line is the line of its bytes
+
+-- what a line that was answered `Frame n` is
+pub record IsLine (most : ℕ) (s : List ℕ) (n : ℕ) : Type 0 where
+  pub line : s ≡ lineOfBytes (unhex s)
+  pub bytes : Bytes (unhex s)
+  pub count : n ≡ length (unhex s)
+  pub fits : 2 * n ≤ most
+  pub long : length s ≡ 2 * n + 1
+
+-- the digits and what stands behind them
+cut-last : (s : List ℕ) (m : ℕ) → length s ≡ m + 1 → s ≡ take m s ++ getD s m 0 ∷ []
+cut-last s m e =
+    sym (take-append-drop m s)
+    ∙ rw (drop-cons s m 0 (omega arith), drop-of-length-le s {i = suc m} (omega arith))
+
+pub frame-is-line : (most : ℕ) (s : List ℕ) (n : ℕ) → lineWithin most s ≡ Frame n → IsLine most s n
+unfolding lineWithin
+frame-is-line most s n q =
+    by-test (eqb (length s % 2) 0) (λ a. never (simp a at q)) (λ a.
+    by-test (ltb most (length s - 1)) (λ b. never (simp (a, b) at q)) (λ b.
+    by-test (eqb (getD s (length s - 1) 0) lineEnd) (λ d.
+    by-test (allDigits (take (length s - 1) s)) (λ f.
+    let k : (length s - 1) / 2 ≡ n = cc (simp (a, b, d, f) at q) in
+    let odd : length s % 2 ≡ 0 → ⊥ = eqb-false _ _ a in
+    let one : length s ≡ length s - 1 + 1 = omega arith in
+    let cut : s ≡ take (length s - 1) s ++ lineEnd ∷ [] = cut-last s (length s - 1) one ∙ ap (λ (x : ℕ). take (length s - 1) s ++ x ∷ []) (eqb-true _ _ d) in
+    let digits : hexOf (unhex (take (length s - 1) s)) ≡ take (length s - 1) s =
+    hexOf-unhex _ (rw (length-take-le (length s - 1) s (omega arith)) (omega arith)) f in
+    whole most s (take (length s - 1) s) n cut digits (length-take-le (length s - 1) s (omega arith)) (omega (arith, ltb-false most (length s - 1) b)) (omega arith))
+    (λ f. never (simp (a, b, d, f) at q)))
+    (λ d. never (simp (a, b, d) at q))))
+  where
+    never : {P : Type 0} → Malformed ≡ Frame n → P
+    never e = absurd (let z : _≡_ {A = ℕ} 0 1 = cc in omega arith)
+
+    whole : (most : ℕ) (s d : List ℕ) (n : ℕ) → s ≡ d ++ lineEnd ∷ [] → hexOf (unhex d) ≡ d → length d ≡ length s - 1 → 2 * n ≤ most → length s ≡ 2 * n + 1 → IsLine most s n
+    whole most s d n cut digits long fits size =
+        let same : unhex s ≡ unhex d = rw (cut, ← digits) (unhex-line (unhex d) (bytes-unhex d) ∙ rw digits) in
+        record {
+          line = cut ∙ rw (same, digits);
+          bytes = bytes-unhex s;
+          count = omega (arith, length-line (unhex d), ap length digits, length-hexOf (unhex d), ap length same);
+          fits = fits;
+          long = size;
+        }

@@ -1,0 +1,14 @@
+-- A number in base 10, as ASCII digits, no leading zero.
+-- Assumes nothing.
+use mathlib.Core.Bool.{cond}
+use mathlib.Core.List.{List, [], _∷_, _++_}
+use Prim.Native.Nat.{ℕ, zero, suc, _+_, _/_, _%_}
+use lib.Dec.{ltb}
+
+-- at most f digits. f only makes the recursion end: `decimal-small` and `decimal-more` are what a reader expects
+unfoldable pub decimalF : ℕ → ℕ → List ℕ
+decimalF zero n = []
+decimalF (suc f) n = cond (ltb n 10) ((48 + n) ∷ []) (decimalF f (n / 10) ++ (48 + n % 10) ∷ [])
+
+unfoldable pub decimal : ℕ → List ℕ
+decimal n = decimalF (suc n) n

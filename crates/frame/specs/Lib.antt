@@ -1,0 +1,7 @@
+pub mod Hex
+pub mod Line
+pub mod Next
+pub mod Field
+pub mod Lay
+pub mod Whole
+pub mod Decimal

@@ -1,0 +1,38 @@
+-- What the probes answer.
+-- Assumes nothing.
+use Prim.Native.Nat.{ℕ, zero, suc, _+_, _*_, _/_, _%_, _^_}
+use mathlib.Core.Bool.{cond}
+use mathlib.Core.List.{List, [], _++_}
+use lib.Dec.{ltb}
+use lib.ListN.{length}
+use Rattle.frame.specs.Hex.{be}
+use Rattle.frame.specs.Field.{fieldAt}
+use Rattle.frame.specs.Lay.{lay}
+use Rattle.frame.specs.declared.line.Line.{Line}
+use Rattle.frame.specs.declared.line.Line.the-variants.{Frame, Malformed}
+use Rattle.frame.specs.declared.field.Field.{Field}
+use Rattle.frame.specs.declared.field.Field.the-variants.{Value, Short}
+
+-- a frame's bytes, or 0 for a malformed line
+abbrev pub bytesOf : Line → ℕ
+bytesOf (Frame n) = n
+bytesOf Malformed = 0
+
+-- a field's value, or 0 for one that is not complete
+abbrev pub valueOf : Field → ℕ
+valueOf (Value v c) = v
+valueOf Short = 0
+
+-- the sum of the first k u16 fields, modulo 2^32
+unfoldable pub sumTo : ℕ → List ℕ → ℕ
+sumTo zero frame = 0
+sumTo (suc k) frame = (sumTo k frame + valueOf (fieldAt 2 frame (k * 2))) % 2 ^ 32
+
+-- k times the same number as a u32 field
+unfoldable pub repeated : ℕ → ℕ → List ℕ
+repeated zero v = []
+repeated (suc k) v = be 4 v ++ repeated k v
+
+-- laid from the front, or nothing where there is no room for them all
+unfoldable pub repeatInto : List ℕ → ℕ → ℕ → List ℕ
+repeatInto s k v = cond (ltb (length s / 8) k) s (lay s 0 (repeated k v))

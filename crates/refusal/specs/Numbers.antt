@@ -1,0 +1,75 @@
+-- Document 01's table of refusal numbers, row by row.
+-- Assumes nothing.
+use Prim.Native.Nat.{ℕ}
+
+-- nothing is refused
+abbrev pub fine : ℕ
+fine = 0
+
+-- other digits, odd count, too long a line, or a last line without 0A
+abbrev pub malformed : ℕ
+malformed = 1
+
+-- wrong kind or subsequence number, a frame that ends before a field is complete, bytes left over, reference counts exceeded
+abbrev pub misframed : ℕ
+misframed = 2
+
+-- a unit field outside its values
+abbrev pub unitOut : ℕ
+unitOut = 3
+
+-- symbol count above 1,024
+abbrev pub countOut : ℕ
+countOut = 4
+
+-- a pair symbol is wanted and its subsequence is used up
+abbrev pub usedUp : ℕ
+usedUp = 5
+
+-- pair code 7 or more
+abbrev pub codeOut : ℕ
+codeOut = 6
+
+-- a value taken from subsequence 1, 4 or 5 above 65,535
+abbrev pub valueOut : ℕ
+valueOut = 7
+
+-- read length 0 or above 1,000
+abbrev pub lengthOut : ℕ
+lengthOut = 8
+
+-- soft clips reach the read length
+abbrev pub clipsOut : ℕ
+clipsOut = 9
+
+-- a symbol outside the alphabet, or such a reference byte under a match
+abbrev pub symbolOut : ℕ
+symbolOut = 10
+
+-- rcomp, edit type, edit count or deletion symbol outside its values
+abbrev pub fieldOut : ℕ
+fieldOut = 11
+
+-- offset out of order or outside the read
+abbrev pub offsetOut : ℕ
+offsetOut = 12
+
+-- a position outside the unit, or pos not 0 in U
+abbrev pub positionOut : ℕ
+positionOut = 13
+
+-- lines missing, any byte after the last record line, pair symbols left over after the last record, or a state as said under Order
+abbrev pub missing : ℕ
+missing = 14
+
+-- first kept line is not the listing's first line
+abbrev pub otherFirst : ℕ
+otherFirst = 15
+
+-- last kept line cannot be continued
+abbrev pub otherLast : ℕ
+otherLast = 16
+
+-- lent output shorter than the line with its 0A
+abbrev pub noRoom : ℕ
+noRoom = 17

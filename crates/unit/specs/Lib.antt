@@ -1,0 +1,3 @@
+pub mod Unit
+pub mod State
+pub mod Table35

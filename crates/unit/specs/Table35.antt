@@ -1,0 +1,34 @@
+-- Table 35: conversions from numerical indexes to ASCII characters corresponding to alphabet symbols.
+-- Assumes nothing.
+use Prim.Native.Nat.{ℕ}
+use mathlib.Core.Bool.{cond}
+use mathlib.Core.List.{List, [], _∷_}
+use lib.Dec.{eqb}
+use lib.ListN.{length, getD}
+
+-- S₀[0] to S₀[4]: A C G T N
+abbrev pub S₀ : List ℕ
+S₀ = 65 ∷ 67 ∷ 71 ∷ 84 ∷ 78 ∷ []
+
+-- S₁[0] to S₁[15]: A C G T R Y S W K M B D H V N -
+abbrev pub S₁ : List ℕ
+S₁ = 65 ∷ 67 ∷ 71 ∷ 84 ∷ 82 ∷ 89 ∷ 83 ∷ 87 ∷ 75 ∷ 77 ∷ 66 ∷ 68 ∷ 72 ∷ 86 ∷ 78 ∷ 45 ∷ []
+
+-- the letter N
+abbrev pub letterN : ℕ
+letterN = 78
+
+abbrev pub lettersOf : ℕ → List ℕ
+lettersOf alphabet = cond (eqb alphabet 0) S₀ S₁
+
+-- a symbol is inside the alphabet where its index is below this
+unfoldable pub sizeOf : ℕ → ℕ
+sizeOf alphabet = length (lettersOf alphabet)
+
+-- S[index]; 0, which is no letter, outside the alphabet
+unfoldable pub letterOf : ℕ → ℕ → ℕ
+letterOf alphabet index = getD (lettersOf alphabet) index 0
+
+-- where N stands
+unfoldable pub codeOfN : ℕ → ℕ
+codeOfN alphabet = cond (eqb alphabet 0) 4 14

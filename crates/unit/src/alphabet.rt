@@ -1,0 +1,57 @@
+// The two alphabets of Table 35: an index of a symbol, its letter, and back.
+ghost use mathlib.Core.Path.{_≡_};
+ghost use Rattle.unit.specs.Table35.{sizeOf, letterOf, codeOfN};
+
+// Alphabet 0: A C G T N.
+const FIVE: [u8; 5] = [65, 67, 71, 84, 78];
+
+// Alphabet 1: A C G T R Y S W K M B D H V N -.
+const SIXTEEN: [u8; 16] = [
+    65,
+    67,
+    71,
+    84,
+    82,
+    89,
+    83,
+    87,
+    75,
+    77,
+    66,
+    68,
+    72,
+    86,
+    78,
+    45,
+];
+
+// How many symbols an alphabet has: an index is below this.
+pub fn size(alphabet: u32) -> u32
+    ensures { λ r. ⌜ r ≡ sizeOf alphabet ⌝ }
+{
+    if alphabet == 0 { 5 } else { 16 }
+}
+
+// The letter of an index; 0 for an index outside the alphabet.
+pub fn letter(alphabet: u32, index: u32) -> u8
+    ensures { λ r. ⌜ r ≡ letterOf alphabet index ⌝ }
+{
+    let at = index as usize;
+    if alphabet == 0 {
+        if at < 5 {
+            return FIVE[at];
+        }
+        return 0;
+    }
+    if at < 16 {
+        return SIXTEEN[at];
+    }
+    0
+}
+
+// The index of the letter N.
+pub fn index_of_n(alphabet: u32) -> u32
+    ensures { λ r. ⌜ r ≡ codeOfN alphabet ⌝ }
+{
+    if alphabet == 0 { 4 } else { 14 }
+}

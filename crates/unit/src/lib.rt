@@ -1,0 +1,103 @@
+// The unit, the state carried between records, and their limits.
+pub mod alphabet;
+
+ghost use mathlib.Core.Path.{_≡_};
+ghost use Rattle.unit.specs.Unit.{unitRefusal, leastSegments};
+ghost use Rattle.unit.specs.State.{freshState};
+
+// The unit line's eight values.
+pub struct Unit {
+    pub class: u32,
+    pub alphabet: u32,
+    pub segments: u32,
+    pub sequence: u32,
+    pub first: u32,
+    pub start: u32,
+    pub end: u32,
+    pub records: u32,
+}
+
+impl Unit {
+    // The classes, as the unit line numbers them.
+    pub const P: u32 = 1;
+
+    pub const N: u32 = 2;
+
+    pub const M: u32 = 3;
+
+    pub const I: u32 = 4;
+
+    pub const HM: u32 = 5;
+
+    pub const U: u32 = 6;
+
+    // The last alphabet of Table 35.
+    pub const ALPHABETS: u32 = 1;
+
+    // The most template segments.
+    pub const SEGMENTS: u32 = 2;
+
+    // The most records.
+    pub const RECORDS: u32 = 1_024;
+
+    // The most lent reference bases.
+    pub const REFERENCE: usize = 32_768;
+
+    // The fewest template segments of a class.
+    pub fn least_segments(class: u32) -> u32
+        ensures { λ r. ⌜ r ≡ leastSegments class ⌝ }
+    {
+        if class == Unit::HM { Unit::SEGMENTS } else { 1 }
+    }
+
+    // Refusal 3 where a field is outside its values, else 0.
+    pub fn refusal(self) -> u32
+        ensures { λ r. ⌜ r ≡ unitRefusal self ⌝ }
+    {
+        if self.class < Unit::P {
+            return refusal::UNIT_OUT;
+        }
+        if Unit::U < self.class {
+            return refusal::UNIT_OUT;
+        }
+        if Unit::ALPHABETS < self.alphabet {
+            return refusal::UNIT_OUT;
+        }
+        if Unit::SEGMENTS < self.segments {
+            return refusal::UNIT_OUT;
+        }
+        if self.segments < Unit::least_segments(self.class) {
+            return refusal::UNIT_OUT;
+        }
+        if self.end < self.start {
+            return refusal::UNIT_OUT;
+        }
+        if Unit::RECORDS < self.records {
+            return refusal::UNIT_OUT;
+        }
+        0
+    }
+}
+
+// What is carried from record to record: the next record's number, and how many symbols of each subsequence are taken.
+pub struct State {
+    pub number: u32,
+    pub index: [u32; 8],
+}
+
+impl State {
+    // How many subsequences of pair symbols there are.
+    pub const SUBSEQUENCES: usize = 8;
+
+    // The most symbols of a subsequence. In the flat table, symbol k of subsequence s stands at s * SYMBOLS + k.
+    pub const SYMBOLS: u32 = 1_024;
+
+    pub fn fresh() -> State
+        ensures { λ r. ⌜ r ≡ freshState ⌝ }
+    {
+        State {
+            number: 0,
+            index: [0u32; State::SUBSEQUENCES],
+        }
+    }
+}

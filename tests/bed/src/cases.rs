@@ -1,0 +1,186 @@
+//! Whole cases for the two programs: the files they read.
+
+use crate::damage::*;
+use crate::found::found;
+use crate::frames::{reference_frames, unit_frames, Frame};
+use crate::model::UnitModel;
+use crate::rng::Rng;
+use crate::valid::unit_model;
+
+/// What a program is given: two files for the listing, three for resuming.
+#[derive(Clone, Debug, PartialEq, Eq)]
+pub struct Files {
+    pub reference: Vec<u8>,
+    pub unit: Vec<u8>,
+    pub found: Option<Vec<u8>>,
+}
+
+impl Files {
+    /// What the program has to print.
+    pub fn expected(&self) -> Vec<u8> {
+        match &self.found {
+            None => oracle::listing(&self.reference, &self.unit),
+            Some(found) => oracle::resume(&self.reference, &self.unit, found),
+        }
+    }
+}
+
+/// Percent of units that are left in order.
+const UNDAMAGED: u64 = 30;
+/// Percent of units that are left in order when resuming is tried.
+const UNDAMAGED_FOR_RESUMING: u64 = 60;
+
+/// The unit and reference of one case of a run.
+pub fn listing_case(seed: u64, case: u64) -> Files {
+    let mut rng = Rng::for_case(seed, case);
+    let model = unit_model(&mut rng);
+    let steps = if rng.percent(UNDAMAGED) { Vec::new() } else { steps(&mut rng) };
+    written(&mut rng, model, &steps)
+}
+
+/// A unit, a reference, and what was found of a listing.
+pub fn resume_case(seed: u64, case: u64) -> Files {
+    // Other cases than those of the listing under the same seed.
+    let mut rng = Rng::for_case(!seed, case);
+    let model = unit_model(&mut rng);
+    let steps = if rng.percent(UNDAMAGED_FOR_RESUMING) { Vec::new() } else { steps(&mut rng) };
+    let mut files = written(&mut rng, model, &steps);
+    let listing = oracle::listing(&files.reference, &files.unit);
+    files.found = Some(found(&mut rng, &files, &listing));
+    if rng.percent(20) {
+        damage_behind_the_pairs(&mut rng, &mut files.unit);
+    }
+    files
+}
+
+/// A unit in order, written down.
+pub fn valid_case(seed: u64, case: u64) -> (UnitModel, Files) {
+    let mut rng = Rng::for_case(seed, case);
+    let model = unit_model(&mut rng);
+    let files = written(&mut rng, model.clone(), &[]);
+    (model, files)
+}
+
+/// The steps at which damage can be done, in the order in which a unit is written down.
+#[derive(Clone, Copy, PartialEq, Eq, PartialOrd, Ord)]
+enum Step {
+    Model,
+    Frame,
+    Reference,
+    Lines,
+    Line,
+    File,
+}
+
+/// One step mostly; two or three show which refusal comes first.
+fn steps(rng: &mut Rng) -> Vec<Step> {
+    let count = match rng.below(100) {
+        0..=59 => 1,
+        60..=87 => 2,
+        _ => 3,
+    };
+    let mut steps: Vec<Step> = (0..count).map(|_| step(rng)).collect();
+    steps.sort();
+    steps
+}
+
+fn step(rng: &mut Rng) -> Step {
+    match rng.below(100) {
+        0..=49 => Step::Model,
+        50..=74 => Step::Frame,
+        75..=78 => Step::Reference,
+        79..=84 => Step::Lines,
+        85..=94 => Step::Line,
+        _ => Step::File,
+    }
+}
+
+/// Writes a unit down and does the damage on the way.
+fn written(rng: &mut Rng, mut model: UnitModel, steps: &[Step]) -> Files {
+    let times = |step| steps.iter().filter(|other| **other == step).count();
+    for _ in 0..times(Step::Model) {
+        damage_model(rng, &mut model);
+    }
+    let mut frames = unit_frames(&model);
+    for _ in 0..times(Step::Frame) {
+        let at = some_line(rng, frames.len());
+        damage_frame(rng, &model.unit, &mut frames[at]);
+    }
+    let mut reference = reference_frames(rng, &model.reference);
+    for _ in 0..times(Step::Reference) {
+        damage_reference(rng, &model.unit, &mut reference);
+    }
+    let mut unit = Text::of(&frames);
+    let mut reference = Text::of(&reference);
+    for step in steps {
+        // Now and then it is the reference's text that is damaged.
+        let text = if rng.percent(12) { &mut reference } else { &mut unit };
+        text.damage(rng, *step);
+    }
+    Files { reference: reference.file(), unit: unit.file(), found: None }
+}
+
+/// The unit line, a pair line or a record line, each about as often.
+fn some_line(rng: &mut Rng, lines: usize) -> usize {
+    match rng.below(10) {
+        0..=1 => 0,
+        2..=4 => rng.index(lines.min(9)),
+        _ => rng.index(lines),
+    }
+}
+
+/// A file as lines, with what is done to it as a whole kept for the end.
+struct Text {
+    lines: Vec<Vec<u8>>,
+    whole: Option<Vec<u8>>,
+}
+
+impl Text {
+    fn of(frames: &[Frame]) -> Text {
+        Text { lines: frames.iter().map(Frame::line).collect(), whole: None }
+    }
+
+    fn damage(&mut self, rng: &mut Rng, step: Step) {
+        match step {
+            Step::Lines => damage_lines(rng, &mut self.lines),
+            Step::Line if !self.lines.is_empty() => {
+                let at = some_line(rng, self.lines.len());
+                damage_line(rng, &mut self.lines[at]);
+            }
+            Step::File => {
+                let mut whole = self.whole.take().unwrap_or_else(|| self.lines.concat());
+                damage_file(rng, &mut whole);
+                self.whole = Some(whole);
+            }
+            _ => {}
+        }
+    }
+
+    fn file(self) -> Vec<u8> {
+        self.whole.unwrap_or_else(|| self.lines.concat())
+    }
+}
+
+/// Damages record lines after the listing was made: resuming passes over some of them by their 0A only.
+fn damage_behind_the_pairs(rng: &mut Rng, unit: &mut Vec<u8>) {
+    let mut lines: Vec<Vec<u8>> = unit.split_inclusive(|byte| *byte == b'\n').map(<[u8]>::to_vec).collect();
+    if lines.len() <= 9 {
+        return;
+    }
+    let mut records = lines.split_off(9);
+    match rng.below(4) {
+        0 => records.truncate(rng.index(records.len())),
+        1 => damage_lines(rng, &mut records),
+        2 => {
+            let at = rng.index(records.len());
+            damage_line(rng, &mut records[at]);
+        }
+        _ => {
+            let mut joined = records.concat();
+            damage_file(rng, &mut joined);
+            records = vec![joined];
+        }
+    }
+    lines.extend(records);
+    *unit = lines.concat();
+}

@@ -1,0 +1,28 @@
+//! The second decoder: written from document 01, the readings and the standard's tables alone,
+//! so that the product can be compared with something that shares no line with it.
+//!
+//! It decodes into owned structures and prints those. Nothing is clever, nothing is lent.
+
+pub mod alphabet;
+pub mod frame;
+pub mod hex;
+pub mod kind;
+pub mod limits;
+pub mod listing;
+pub mod pairing;
+pub mod program;
+pub mod record;
+pub mod reference;
+pub mod refusal;
+pub mod resume;
+pub mod segment;
+pub mod unit;
+
+pub use listing::listing;
+pub use pairing::{pair, Link, Mate, State, Symbols};
+pub use record::record;
+pub use reference::Reference;
+pub use refusal::Refusal;
+pub use resume::{kept, resume};
+pub use segment::{aligned_segment, unaligned_segment, Segment};
+pub use unit::{Class, Unit, UnitNumbers};

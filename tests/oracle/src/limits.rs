@@ -1,0 +1,28 @@
+//! Every limit of document 01, each written once and only here.
+
+/// Bases of one read.
+pub const READ_LENGTH_MAX: u16 = 1_000;
+/// Edits of one segment.
+pub const EDITS_MAX: u16 = 1_000;
+/// Records of one unit.
+pub const RECORDS_MAX: u16 = 1_024;
+/// Pair subsequences, each with a 02 line of its own.
+pub const SUBSEQUENCES: usize = 8;
+/// Symbols of one subsequence.
+pub const SYMBOLS_MAX: u16 = 1_024;
+/// Digits of one input line, its 0A not counted.
+pub const LINE_DIGITS_MAX: usize = 20_058;
+/// Symbol indexes of one reference line.
+pub const REFERENCE_LINE_MAX: usize = 1_000;
+/// Bases of the whole reference.
+pub const REFERENCE_MAX: usize = 32_768;
+/// Bytes of the longest listed line, its 0A counted: what the programs lend.
+pub const LISTED_LINE_MAX: usize = 20_149;
+/// Bytes of an 04 frame before its first segment, the least such a frame can have.
+pub const LISTED_FRAME_LEAST: usize = 28;
+/// Bytes of an 05 frame.
+pub const REFUSED_FRAME: usize = 4;
+/// Bytes of an 06 frame.
+pub const END_FRAME: usize = 3;
+/// Characters of the longest E-CIGAR.
+pub const ECIGAR_MAX: usize = 4_014;
