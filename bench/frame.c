@@ -8,7 +8,7 @@
 
 size_t probe_line(const uint8_t *line, size_t len);
 uint32_t probe_sum(const uint8_t *line, size_t len, uint32_t fields);
-void probe_lay(uint8_t *out, size_t len, uint32_t fields, uint32_t v);
+void probe_lay(uint8_t *out, size_t len, uint32_t fields);
 
 enum { DIGITS = 20056, ROUNDS = 31, TURNS = 200 };
 
@@ -40,14 +40,14 @@ __attribute__((noinline)) static uint32_t c_sum(const uint8_t *s, size_t n, uint
     return sum;
 }
 
-__attribute__((noinline)) static void c_lay(uint8_t *s, size_t n, uint32_t fields, uint32_t v)
+__attribute__((noinline)) static void c_lay(uint8_t *s, size_t n, uint32_t fields)
 {
     static const char digit[] = "0123456789abcdef";
     if (n / 8 < fields)
         return;
     for (uint32_t i = 0; i < fields; i++)
         for (int k = 0; k < 8; k++)
-            s[(size_t)i * 8 + k] = digit[v >> (28 - 4 * k) & 15];
+            s[(size_t)i * 8 + k] = digit[(fields - i) >> (28 - 4 * k) & 15];
 }
 
 static double now(void)
@@ -68,7 +68,7 @@ static void work(int which, int plain)
     switch (which) {
     case 0: sink += plain ? c_line(line, sizeof line) : probe_line(line, sizeof line); break;
     case 1: sink += plain ? c_sum(line, sizeof line, DIGITS / 4) : probe_sum(line, sizeof line, DIGITS / 4); break;
-    default: (plain ? c_lay : probe_lay)(out, sizeof out, DIGITS / 8, (uint32_t)sink); sink += out[7];
+    default: (plain ? c_lay : probe_lay)(out, sizeof out, DIGITS / 8); sink += out[7];
     }
 }
 

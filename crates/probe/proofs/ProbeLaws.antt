@@ -9,23 +9,23 @@ use lib.ListN.{length, length-append}
 use Rattle.frame.specs.Hex.{be}
 use Rattle.frame.specs.Field.{fieldAt}
 use Rattle.frame.proofs.HexLaws.{length-be}
-use Rattle.probe.specs.Probe.{valueOf, sumTo, repeated}
+use Rattle.probe.specs.Probe.{valueOf, sumTo, countdown}
 
 pub sum-more : (k : ℕ) (frame : List ℕ) {s v : ℕ} → s ≡ sumTo k frame → v ≡ valueOf (fieldAt 2 frame (k * 2)) → (s + v) % 2 ^ 32 ≡ sumTo (k + 1) frame
 unfolding sumTo
 sum-more k frame e f = rw (add-one, e, f)
 
-pub repeated-on : (k v : ℕ) → 0 < k → repeated k v ≡ be 4 v ++ repeated (k - 1) v
-unfolding repeated
-repeated-on zero v h = absurd (omega arith)
-repeated-on (suc k) v h = let e : suc k - 1 ≡ k = omega arith in rw e
+pub countdown-on : (k : ℕ) → 0 < k → countdown k ≡ be 4 k ++ countdown (k - 1)
+unfolding countdown
+countdown-on zero h = absurd (omega arith)
+countdown-on (suc k) h = let e : suc k - 1 ≡ k = omega arith in rw e
 
-pub repeated-none : (k v : ℕ) → k ≤ 0 → repeated k v ≡ []
-unfolding repeated
-repeated-none zero v h = refl
-repeated-none (suc k) v h = absurd (omega arith)
+pub countdown-none : (k : ℕ) → k ≤ 0 → countdown k ≡ []
+unfolding countdown
+countdown-none zero h = refl
+countdown-none (suc k) h = absurd (omega arith)
 
-pub length-repeated : (k v : ℕ) → length (repeated k v) ≡ 4 * k
-unfolding repeated
-length-repeated zero v = refl
-length-repeated (suc k) v = omega (arith, length-append (be 4 v) (repeated k v), length-be 4 v, length-repeated k v)
+pub length-countdown : (k : ℕ) → length (countdown k) ≡ 4 * k
+unfolding countdown
+length-countdown zero = refl
+length-countdown (suc k) = omega (arith, length-append (be 4 (suc k)) (countdown k), length-be 4 (suc k), length-countdown k)

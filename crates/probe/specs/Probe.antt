@@ -28,11 +28,11 @@ unfoldable pub sumTo : ℕ → List ℕ → ℕ
 sumTo zero frame = 0
 sumTo (suc k) frame = (sumTo k frame + valueOf (fieldAt 2 frame (k * 2))) % 2 ^ 32
 
--- k times the same number as a u32 field
-unfoldable pub repeated : ℕ → ℕ → List ℕ
-repeated zero v = []
-repeated (suc k) v = be 4 v ++ repeated k v
+-- the numbers from k down to 1 as u32 fields
+unfoldable pub countdown : ℕ → List ℕ
+countdown zero = []
+countdown (suc k) = be 4 (suc k) ++ countdown k
 
 -- laid from the front, or nothing where there is no room for them all
-unfoldable pub repeatInto : List ℕ → ℕ → ℕ → List ℕ
-repeatInto s k v = cond (ltb (length s / 8) k) s (lay s 0 (repeated k v))
+unfoldable pub countInto : List ℕ → ℕ → List ℕ
+countInto s k = cond (ltb (length s / 8) k) s (lay s 0 (countdown k))

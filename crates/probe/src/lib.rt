@@ -6,7 +6,7 @@ ghost use mathlib.Core.Path.{_≡_};
 ghost use Rattle.frame.specs.Hex.{unhex};
 ghost use Rattle.frame.specs.Line.{lineOf};
 ghost use Rattle.frame.specs.Field.{fieldAt};
-ghost use Rattle.probe.specs.Probe.{bytesOf, valueOf, sumTo, repeatInto};
+ghost use Rattle.probe.specs.Probe.{bytesOf, valueOf, sumTo, countInto};
 
 // A frame's bytes, or 0 for a malformed line.
 #[no_mangle]
@@ -44,10 +44,10 @@ pub extern "C" fn probe_sum(line: &[u8], fields: u32) -> u32
     sum
 }
 
-// The same number laid as a u32 field, `fields` times, or nothing where there is no room for them all.
+// The numbers from `fields` down to 1 laid as u32 fields, or nothing where there is no room for them all.
 #[no_mangle]
-pub extern "C" fn probe_lay(out: &mut [u8], fields: u32, v: u32)
-    ensures { λ _. ⌜ now (out .exit) ≡ repeatInto (now (out .entry)) fields v ⌝ }
+pub extern "C" fn probe_lay(out: &mut [u8], fields: u32)
+    ensures { λ _. ⌜ now (out .exit) ≡ countInto (now (out .entry)) fields ⌝ }
 {
     if out.len() / 8 < fields as usize {
         return;
@@ -55,7 +55,7 @@ pub extern "C" fn probe_lay(out: &mut [u8], fields: u32, v: u32)
     let mut at = 0;
     let mut left = fields;
     while 0 < left {
-        at = frame::lay::put_u32(out, at, v);
+        at = frame::lay::put_u32(out, at, left);
         left -= 1;
     }
 }
