@@ -6,15 +6,17 @@ use Prim.Native.Nat.{ℕ, zero, suc, _+_, _*_, _/_, _%_, _^_, _<_, _≤_}
 use native.Mathlib.Nat.{zero-add, mod-one, pow-suc, one-le-pow, mod-eq-of-lt, pow-le-pow-right, lt-of-lt-of-le}
 use native.Mathlib.Numerals.{add-one}
 use native.Mathlib.Omega.{arith}
-use borrow.Author.Tests.{le-leb, lt-leb}
+use borrow.Author.Tests.{le-leb, lt-leb, leb-true}
 use lib.Arith.{mod-mul}
-use lib.Dec.{lit<}
+use lib.Dec.{leb, lit<}
 use lib.ListN.{length, getD, List·getD-append}
 use lib.Seq.{getD-append-add, getD-at}
 use Rattle.frame.specs.Hex.{unhex, be}
 use Rattle.frame.specs.Field.{bigAt, fieldAt}
+use Rattle.frame.specs.declared.field.Cursor.{Cursor}
+use Rattle.frame.specs.declared.field.Field.{Field}
 use Rattle.frame.specs.declared.field.Field.the-variants.{Value, Short}
-use Rattle.frame.proofs.HexLaws.{length-unhex, byte-lt, length-be, be-add}
+use Rattle.frame.proofs.HexLaws.{by-test, length-unhex, byte-lt, length-be, be-add}
 
 -- ---- the number that k bytes stand for
 
@@ -46,6 +48,33 @@ field-short k l at h = simp (lt-leb (at + k) (length (unhex l)) (rw length-unhex
 pub field-value : (k : ℕ) (l : List ℕ) (at v : ℕ) → at + k ≤ length l / 2 → v ≡ bigAt k (unhex l) at → Value v (record { at = at + k }) ≡ fieldAt k (unhex l) at
 unfolding fieldAt
 field-value k l at v h e = simp (le-leb (at + k) (length (unhex l)) (rw length-unhex h), e)
+
+-- what a field that is complete is: its bytes are there, its value fits them, and the next place is behind them
+pub record Complete (k : ℕ) (l : List ℕ) (at v next : ℕ) : Type 0 where
+  pub value : v ≡ bigAt k (unhex l) at
+  pub fits : v < 256 ^ k
+  pub behind : next ≡ at + k
+  pub inside : next ≤ length l / 2
+
+pub field-complete : (k : ℕ) (l : List ℕ) (at v : ℕ) (c : Cursor) → fieldAt k (unhex l) at ≡ Value v c → Complete k l at v (c .at)
+unfolding fieldAt
+field-complete k l at v c q =
+    by-test (leb (at + k) (length (unhex l)))
+    (λ t.
+    let e : _≡_ {A = Field} (Value (bigAt k (unhex l) at) (record { at = at + k })) (Value v c) = simp t at q in
+    let value : v ≡ bigAt k (unhex l) at = cc in
+    let behind : c .at ≡ at + k = cc in
+    record {
+      value = value;
+      fits = rw value (bigAt-lt k (unhex l) at (byte-lt l));
+      behind = behind;
+      inside = omega (arith, leb-true (at + k) (length (unhex l)) t, length-unhex l);
+    })
+    (λ t. absurd (let e : _≡_ {A = Field} Short (Value v c) = simp t at q in let z : _≡_ {A = ℕ} 0 1 = cc in omega arith))
+
+-- the same of an answer that was taken apart
+pub value-fits : (k : ℕ) (l : List ℕ) (at v : ℕ) (c : Cursor) {answer : Field} → answer ≡ fieldAt k (unhex l) at → answer ≡ Value v c → v < 256 ^ k
+value-fits k l at v c e h = field-complete k l at v c (sym e ∙ h) .fits
 
 -- ---- a number that was laid is read back
 
