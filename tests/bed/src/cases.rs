@@ -2,10 +2,11 @@
 
 use crate::damage::*;
 use crate::found::found;
-use crate::frames::{reference_frames, unit_frames, Frame};
+use crate::frames::{reference_frames, unit_frame, unit_frames, Frame};
 use crate::model::UnitModel;
 use crate::rng::Rng;
 use crate::valid::unit_model;
+use oracle::limits::SUBSEQUENCES;
 
 /// What a program is given: two files for the listing, three for resuming.
 #[derive(Clone, Debug, PartialEq, Eq)]
@@ -65,6 +66,7 @@ pub fn valid_case(seed: u64, case: u64) -> (UnitModel, Files) {
 #[derive(Clone, Copy, PartialEq, Eq, PartialOrd, Ord)]
 enum Step {
     Model,
+    Unit,
     Frame,
     Reference,
     Lines,
@@ -75,8 +77,8 @@ enum Step {
 /// One step mostly; two or three show which refusal comes first.
 fn steps(rng: &mut Rng) -> Vec<Step> {
     let count = match rng.below(100) {
-        0..=59 => 1,
-        60..=87 => 2,
+        0..=54 => 1,
+        55..=84 => 2,
         _ => 3,
     };
     let mut steps: Vec<Step> = (0..count).map(|_| step(rng)).collect();
@@ -86,8 +88,9 @@ fn steps(rng: &mut Rng) -> Vec<Step> {
 
 fn step(rng: &mut Rng) -> Step {
     match rng.below(100) {
-        0..=49 => Step::Model,
-        50..=74 => Step::Frame,
+        0..=47 => Step::Model,
+        48..=52 => Step::Unit,
+        53..=74 => Step::Frame,
         75..=78 => Step::Reference,
         79..=84 => Step::Lines,
         85..=94 => Step::Line,
@@ -98,12 +101,19 @@ fn step(rng: &mut Rng) -> Step {
 /// Writes a unit down and does the damage on the way.
 fn written(rng: &mut Rng, mut model: UnitModel, steps: &[Step]) -> Files {
     let times = |step| steps.iter().filter(|other| **other == step).count();
+    let focus = rng.index(model.records.len().max(1));
     for _ in 0..times(Step::Model) {
-        damage_model(rng, &mut model);
+        damage_model(rng, &mut model, focus);
     }
     let mut frames = unit_frames(&model);
+    for _ in 0..times(Step::Unit) {
+        // The records stay as the author meant them.
+        let mut unit = model.unit.clone();
+        damage_unit(rng, &mut unit);
+        frames[0] = unit_frame(&unit);
+    }
     for _ in 0..times(Step::Frame) {
-        let at = some_line(rng, frames.len());
+        let at = some_line(rng, frames.len(), focus);
         damage_frame(rng, &model.unit, &mut frames[at]);
     }
     let mut reference = reference_frames(rng, &model.reference);
@@ -115,16 +125,18 @@ fn written(rng: &mut Rng, mut model: UnitModel, steps: &[Step]) -> Files {
     for step in steps {
         // Now and then it is the reference's text that is damaged.
         let text = if rng.percent(12) { &mut reference } else { &mut unit };
-        text.damage(rng, *step);
+        text.damage(rng, *step, focus);
     }
     Files { reference: reference.file(), unit: unit.file(), found: None }
 }
 
-/// The unit line, a pair line or a record line, each about as often.
-fn some_line(rng: &mut Rng, lines: usize) -> usize {
+/// The unit line, a pair line, the line of the record that other damage goes to, or any.
+fn some_line(rng: &mut Rng, lines: usize, focus: usize) -> usize {
+    let head = 1 + SUBSEQUENCES;
     match rng.below(10) {
-        0..=1 => 0,
-        2..=4 => rng.index(lines.min(9)),
+        0 => 0,
+        1..=3 => rng.index(lines.min(head)),
+        4..=7 if head + focus < lines => head + focus,
         _ => rng.index(lines),
     }
 }
@@ -140,11 +152,11 @@ impl Text {
         Text { lines: frames.iter().map(Frame::line).collect(), whole: None }
     }
 
-    fn damage(&mut self, rng: &mut Rng, step: Step) {
+    fn damage(&mut self, rng: &mut Rng, step: Step, focus: usize) {
         match step {
             Step::Lines => damage_lines(rng, &mut self.lines),
             Step::Line if !self.lines.is_empty() => {
-                let at = some_line(rng, self.lines.len());
+                let at = some_line(rng, self.lines.len(), focus);
                 damage_line(rng, &mut self.lines[at]);
             }
             Step::File => {
@@ -164,10 +176,11 @@ impl Text {
 /// Damages record lines after the listing was made: resuming passes over some of them by their 0A only.
 fn damage_behind_the_pairs(rng: &mut Rng, unit: &mut Vec<u8>) {
     let mut lines: Vec<Vec<u8>> = unit.split_inclusive(|byte| *byte == b'\n').map(<[u8]>::to_vec).collect();
-    if lines.len() <= 9 {
+    let head = 1 + SUBSEQUENCES;
+    if lines.len() <= head {
         return;
     }
-    let mut records = lines.split_off(9);
+    let mut records = lines.split_off(head);
     match rng.below(4) {
         0 => records.truncate(rng.index(records.len())),
         1 => damage_lines(rng, &mut records),

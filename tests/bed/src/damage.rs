@@ -15,7 +15,7 @@ const TRIES: usize = 12;
 type OnRecord = fn(&mut Rng, &mut UnitModel, usize) -> bool;
 type OnUnit = fn(&mut Rng, &mut UnitModel) -> bool;
 
-const ON_RECORD: [OnRecord; 26] = [
+const ON_RECORD: [OnRecord; 28] = [
     no_length,
     no_unaligned_length,
     clips_reach_the_length,
@@ -40,32 +40,35 @@ const ON_RECORD: [OnRecord; 26] = [
     bad_value,
     bad_value,
     symbols_used_up,
+    bad_value_then_used_up,
     another_number_of_blocks,
     bad_reference_under_the_read,
+    outside_over_a_bad_reference,
 ];
 
 const ON_UNIT: [OnUnit; 5] = [bad_reference, another_record_count, symbol_left_over, too_many_symbols, symbol_gone];
 
-/// Damages a unit as its author might have: the frames stay whole.
-pub fn damage_model(rng: &mut Rng, model: &mut UnitModel) {
-    for _ in 0..TRIES {
-        let done = if model.records.is_empty() || rng.percent(20) {
-            rng.pick(&ON_UNIT)(rng, model)
-        } else {
-            let record = rng.index(model.records.len());
-            rng.pick(&ON_RECORD)(rng, model, record)
-        };
-        if done {
-            return;
+/// Damages a unit as its author might have: the frames stay whole. Damage to a record goes to `focus`, so that
+/// several kinds meet in one record and the Order of checks has to decide between them.
+pub fn damage_model(rng: &mut Rng, model: &mut UnitModel, focus: usize) {
+    if model.records.is_empty() || rng.percent(20) {
+        for _ in 0..TRIES {
+            if rng.pick(&ON_UNIT)(rng, model) {
+                return;
+            }
         }
+    } else {
+        damage_record(rng, model, focus);
     }
 }
 
-/// The same, for one record only.
+/// Damages one record, in one way or, now and then, in two.
 pub fn damage_record(rng: &mut Rng, model: &mut UnitModel, record: usize) {
-    for _ in 0..TRIES {
-        if rng.pick(&ON_RECORD)(rng, model, record) {
-            return;
+    for _ in 0..if rng.percent(30) { 2 } else { 1 } {
+        for _ in 0..TRIES {
+            if rng.pick(&ON_RECORD)(rng, model, record) {
+                break;
+            }
         }
     }
 }
@@ -318,6 +321,16 @@ fn symbols_used_up(rng: &mut Rng, model: &mut UnitModel, record: usize) -> bool 
     true
 }
 
+/// A sequence id that is none, and no position behind it.
+fn bad_value_then_used_up(rng: &mut Rng, model: &mut UnitModel, record: usize) -> bool {
+    let subsequence = *rng.pick(&[4, 5]);
+    let position = usize::from(model.records[record].before[subsequence + 2]);
+    let Some(value) = own_symbol(model, record, subsequence) else { return false };
+    *value = u32::from(u16::MAX) + 1;
+    model.symbols[subsequence + 2].truncate(position);
+    true
+}
+
 fn another_number_of_blocks(rng: &mut Rng, model: &mut UnitModel, record: usize) -> bool {
     let blocks = &mut model.records[record].blocks;
     if rng.percent(50) {
@@ -339,6 +352,12 @@ fn bad_reference_under_the_read(rng: &mut Rng, model: &mut UnitModel, record: us
         None => return false,
     }
     true
+}
+
+/// Both faults that are looked for after a segment.
+fn outside_over_a_bad_reference(rng: &mut Rng, model: &mut UnitModel, record: usize) -> bool {
+    let bad = bad_reference_under_the_read(rng, model, record);
+    last_base_outside(rng, model, record) && bad
 }
 
 fn bad_reference(rng: &mut Rng, model: &mut UnitModel) -> bool {
@@ -387,7 +406,7 @@ fn too_many_symbols(rng: &mut Rng, model: &mut UnitModel) -> bool {
 /// Damages one frame: a field at or past its limits, a cut, bytes too many or too few.
 pub fn damage_frame(rng: &mut Rng, unit: &UnitNumbers, frame: &mut Frame) {
     match rng.below(10) {
-        0 if !frame.bytes.is_empty() => cut_frame(rng, frame),
+        0 | 4 if !frame.bytes.is_empty() => cut_frame(rng, frame),
         1 => lengthen_frame(rng, frame),
         2 if !frame.bytes.is_empty() => {
             frame.bytes.remove(rng.index(frame.bytes.len()));
@@ -402,11 +421,13 @@ pub fn damage_frame(rng: &mut Rng, unit: &UnitNumbers, frame: &mut Frame) {
     }
 }
 
-/// Anywhere, or where a field begins.
+/// Anywhere, or about a field: before, inside or behind it.
 fn cut_frame(rng: &mut Rng, frame: &mut Frame) {
     let mut at = rng.index(frame.bytes.len());
-    if let (true, false) = (rng.percent(50), frame.places.is_empty()) {
-        at = rng.pick(&frame.places).at;
+    if rng.percent(70) {
+        if let Some(place) = some_place(rng, frame) {
+            at = place.at + rng.index(place.width + 1);
+        }
     }
     frame.bytes.truncate(at);
     frame.places.retain(|place| place.at + place.width <= at);
@@ -418,23 +439,27 @@ fn lengthen_frame(rng: &mut Rng, frame: &mut Frame) {
     }
 }
 
-/// The kind of field is chosen first, so that a count is hit as often as one of a thousand bases.
 fn change_field(rng: &mut Rng, unit: &UnitNumbers, frame: &mut Frame) {
-    if frame.places.is_empty() {
-        return;
-    }
+    let Some(place) = some_place(rng, frame) else { return };
+    let old = frame.get(place);
+    let value = *rng.pick(&edges(place.field, unit, old));
+    frame.set(place, value);
+}
+
+/// The kind of field is chosen first, so that a count is hit as often as one of a thousand bases.
+fn some_place(rng: &mut Rng, frame: &Frame) -> Option<Place> {
     let mut fields: Vec<Field> = Vec::new();
     for place in &frame.places {
         if !fields.contains(&place.field) {
             fields.push(place.field);
         }
     }
+    if fields.is_empty() {
+        return None;
+    }
     let field = *rng.pick(&fields);
     let places: Vec<Place> = frame.places.iter().copied().filter(|place| place.field == field).collect();
-    let place = *rng.pick(&places);
-    let old = frame.get(place);
-    let value = *rng.pick(&edges(field, unit, old));
-    frame.set(place, value);
+    Some(*rng.pick(&places))
 }
 
 /// Values at and past the limits of a field, and those beside the old one.

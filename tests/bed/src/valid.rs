@@ -231,6 +231,10 @@ impl Builder {
         let high = u64::from(self.unit.au_end) + 1 - taken.max(1);
         let first = u64::from(self.unit.first);
         let near = rng.below(2 * taken + 8);
+        // Behind the last position of all a mate's position would begin at 0 again, were it not kept wider.
+        if self.region() > LAST_POSITION && rng.percent(30) {
+            return (high - rng.below(40)) as u32;
+        }
         let wanted = match rng.below(10) {
             0 => low,
             1 => high,

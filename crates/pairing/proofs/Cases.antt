@@ -1,0 +1,154 @@
+-- What Table 60's cases are: they take from rising subsequences, their ends are within a line's bounds, and classes U and HM have no aligned mate. Assumes nothing.
+use mathlib.Core.Path.{_≡_, refl}
+use mathlib.Core.Bool.{true}
+use Prim.Native.Nat.{ℕ, _+_, _/_, _<_, _≤_}
+use native.Mathlib.Omega.{arith}
+use lib.Dec.{eqb, lit≤}
+use Rattle.unit.specs.Unit.{classU, mostSegments}
+use Rattle.pairing.specs.declared.Mate.{Mate}
+use Rattle.pairing.specs.declared.Mate.the-variants.{Unpaired, Near, Far}
+use Rattle.pairing.specs.declared.Link.{Link}
+use Rattle.pairing.specs.Table60.{Steps, reserved, mateSeqId, mappingPos, mateAt, HM-same-rec, same-rec, split, diff-ref-seq, R1-unpaired, R2-unpaired, table60}
+use Rattle.pairing.specs.Pairing.{largest16}
+use Rattle.pairing.proofs.Taking.{by-test, one-of}
+use Rattle.pairing.proofs.Decoding.{Rising, Ends}
+
+-- every case
+
+-- what holds of each row of Table 60 holds of the case of any code
+by-case : (P : Steps → Type 0) (classId seqId code : ℕ) → P (same-rec classId) → P (split classId seqId 2 0) → P (split classId seqId 3 1) → P (diff-ref-seq classId 4 6 0) → P (diff-ref-seq classId 5 7 1) → P R1-unpaired → P R2-unpaired → P reserved → P (table60 classId seqId code)
+unfolding table60
+by-case P classId seqId code r0 r1 r2 r3 r4 r5 r6 out =
+    one-of P (eqb code 0) _ _ r0
+    (one-of P (eqb code 1) _ _ r1
+    (one-of P (eqb code 2) _ _ r2
+    (one-of P (eqb code 3) _ _ r3
+    (one-of P (eqb code 4) _ _ r4
+    (one-of P (eqb code 5) _ _ r5
+    (one-of P (eqb code 6) _ _ r6 out))))))
+
+-- Table 60's cases take from rising subsequences
+
+module _ (classId : ℕ) where
+  split-rising : (sequence N first n : ℕ) → n ≤ N → Rising n (split classId sequence N first)
+  unfolding split
+  split-rising sequence N first n h = (h, λ v. tt)
+
+  diff-rising : (N Q first n : ℕ) → n ≤ N → N + 1 ≤ Q → Rising n (diff-ref-seq classId N Q first)
+  unfolding diff-ref-seq
+  diff-rising N Q first n h k =
+      (h, λ id. one-of (Rising (N + 1)) (eqb classId classU) _ _ (split-rising id Q first (N + 1) k) (split-rising id Q first (N + 1) k))
+
+  pub table60-rising : (seqId code : ℕ) → Rising 1 (table60 classId seqId code)
+  unfolding same-rec
+  table60-rising seqId code =
+      by-case (Rising 1) classId seqId code (one-of (Rising 1) (eqb classId classU) _ _ tt (lit≤ tt, λ v. tt))
+      (split-rising seqId 2 0 1 (lit≤ tt))
+      (split-rising seqId 3 1 1 (lit≤ tt))
+      (diff-rising 4 6 0 1 (lit≤ tt) (lit≤ tt))
+      (diff-rising 5 7 1 1 (lit≤ tt) (lit≤ tt))
+      tt
+      tt
+      tt
+
+pub HM-rising : Rising 0 HM-same-rec
+unfolding HM-same-rec
+HM-rising = (lit≤ tt, λ v. tt)
+
+-- the bounds that a line's fields need, in Table 60's cases
+
+-- the mate of a link, where every symbol is below `bound`
+abbrev pub MateWithin : ℕ → Mate → Type 0
+MateWithin bound Unpaired = Unit {0}
+MateWithin bound (Near delta) = delta ≤ largest16 / 2
+MateWithin bound (Far sequence position) = (sequence ≤ largest16) × (position < bound)
+
+pub record LinkWithin (bound : ℕ) (link : Link) : Type 0 where
+  pub first : link .first ≤ 1
+  pub split : link .split ≤ 2
+  pub one : 1 ≤ link .segments
+  pub two : link .segments ≤ mostSegments
+  pub mate : MateWithin bound (link .mate)
+
+-- the listed sequence id of the mate has 16 bits where the unit's has
+pub sequence-within : (bound seqId : ℕ) (m : Mate) → seqId ≤ largest16 → MateWithin bound m → mateSeqId seqId m ≤ largest16
+sequence-within bound seqId Unpaired h w = lit≤ tt
+sequence-within bound seqId (Near delta) h w = h
+sequence-within bound seqId (Far sequence position) h w = w .0
+
+-- the listed position is not further than the largest delta above what pos and the symbols can be
+pub position-within : (bound pos : ℕ) (m : Mate) → pos < bound → MateWithin bound m → mappingPos pos m < bound + largest16 / 2
+position-within bound pos Unpaired h w = omega arith
+position-within bound pos (Near delta) h w = omega arith
+position-within bound pos (Far sequence position) h w = let l : position < bound = w .1 in omega arith
+
+module _ (classId bound : ℕ) where
+  abbrev pub Below : ℕ → Type 0
+  Below v = v < bound
+
+  abbrev pub Within : Steps → Type 0
+  Within p = Ends Below (LinkWithin bound) p
+
+  at-within : (sequence position : ℕ) → sequence ≤ largest16 → position < bound → MateWithin bound (mateAt classId sequence position)
+  unfolding mateAt
+  at-within sequence position h k = one-of (MateWithin bound) (eqb classId classU) _ _ tt (h, k)
+
+  split-within : (sequence N first : ℕ) → sequence ≤ largest16 → first ≤ 1 → Within (split classId sequence N first)
+  unfolding split
+  split-within sequence N first h l =
+      λ position k. record { first = l; split = lit≤ tt; one = lit≤ tt; two = lit≤ tt; mate = at-within sequence position h k }
+
+  -- in class U the mate is not looked at
+  split-unused : (sequence N first : ℕ) → eqb classId classU ≡ true → first ≤ 1 → Within (split classId sequence N first)
+  unfolding split mateAt
+  split-unused sequence N first u l =
+      λ position k. record { first = l; split = lit≤ tt; one = lit≤ tt; two = lit≤ tt; mate = rw u tt }
+
+  diff-within : (N Q first : ℕ) → first ≤ 1 → Within (diff-ref-seq classId N Q first)
+  unfolding diff-ref-seq
+  diff-within N Q first l =
+      λ id _. by-test Within (eqb classId classU) _ _ (λ u. split-unused id Q first u l) (λ _ fits. split-within id Q first fits l)
+
+  pub table60-within : (seqId code : ℕ) → seqId ≤ largest16 → Within (table60 classId seqId code)
+  unfolding same-rec
+  table60-within seqId code h =
+      by-case Within classId seqId code
+      (one-of Within (eqb classId classU) _ _
+      record { first = lit≤ tt; split = lit≤ tt; one = lit≤ tt; two = lit≤ tt; mate = tt }
+      (λ v _ fits. record { first = omega arith; split = lit≤ tt; one = lit≤ tt; two = lit≤ tt; mate = omega arith }))
+      (split-within seqId 2 0 h (lit≤ tt))
+      (split-within seqId 3 1 h (lit≤ tt))
+      (diff-within 4 6 0 (lit≤ tt))
+      (diff-within 5 7 1 (lit≤ tt))
+      record { first = lit≤ tt; split = lit≤ tt; one = lit≤ tt; two = lit≤ tt; mate = tt }
+      record { first = lit≤ tt; split = lit≤ tt; one = lit≤ tt; two = lit≤ tt; mate = tt }
+      tt
+
+  pub HM-within : Within HM-same-rec
+  unfolding HM-same-rec
+  HM-within = λ v _ fits. record { first = omega arith; split = lit≤ tt; one = lit≤ tt; two = lit≤ tt; mate = tt }
+
+-- classes U and HM have no aligned mate
+
+abbrev pub Alone : Link → Type 0
+Alone link = link .mate ≡ Unpaired
+
+abbrev pub Any : ℕ → Type 0
+Any v = v ≡ v
+
+split-alone : (sequence N first : ℕ) → Ends Any Alone (split classU sequence N first)
+unfolding split mateAt
+split-alone sequence N first = λ position _. refl
+
+diff-alone : (N Q first : ℕ) → Ends Any Alone (diff-ref-seq classU N Q first)
+unfolding diff-ref-seq
+diff-alone N Q first = λ id _. split-alone id Q first
+
+pub table60-alone : (seqId code : ℕ) → Ends Any Alone (table60 classU seqId code)
+unfolding same-rec
+table60-alone seqId code =
+    by-case (Ends Any Alone) classU seqId code refl (split-alone seqId 2 0) (split-alone seqId 3 1) (diff-alone 4 6 0) (diff-alone 5 7 1) refl refl tt
+
+pub HM-alone : Ends Any Alone HM-same-rec
+unfolding HM-same-rec
+HM-alone = λ v _ fits. refl

@@ -1,0 +1,5 @@
+pub mod Take
+pub mod Table60
+pub mod Pairing
+pub mod Reading
+pub mod Examples
