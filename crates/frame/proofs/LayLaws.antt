@@ -9,9 +9,9 @@ use native.Mathlib.Omega.{arith}
 use lib.ListN.{length, take, drop, set, length-append, length-set, length-drop, take-append-drop, drop-of-length-le}
 use lib.Seq.{take-set-le, sets, sets-eq, take-all, drop-set-add, set-out}
 use borrow.Rule.Slice.PartMut.{putMid, midOf}
-use Rattle.frame.specs.Hex.{glyph, hexOf}
+use Rattle.frame.specs.Hex.{glyph, hexOf, be}
 use Rattle.frame.specs.Lay.{lay, Laid}
-use Rattle.frame.proofs.HexLaws.{length-hexOf}
+use Rattle.frame.proofs.HexLaws.{length-hexOf, length-be}
 
 -- ---- lay
 
@@ -84,6 +84,17 @@ length-laid {a} {b} {at} {r} {xs} f = ap length (f .holds) ∙ length-lay a at x
 -- where there was room for so much, there is room for what is left of it behind the first piece
 pub laid-room : {a b : List ℕ} {at p : ℕ} {xs : List ℕ} (n m : ℕ) → Laid a b at p xs → length xs ≡ n → at + 2 * n + m ≤ length a → p + m ≤ length b
 laid-room n m f e h = omega (arith, f .to, length-laid f)
+
+-- room for two pieces is room for the first, and behind the first for the second
+pub room-first : (l : List ℕ) (at : ℕ) (xs ys : List ℕ) → at + 2 * length (xs ++ ys) ≤ length l → at + 2 * length xs ≤ length l
+room-first l at xs ys h = omega (arith, length-append xs ys)
+
+pub room-next : {a b : List ℕ} {at p : ℕ} {xs : List ℕ} (ys : List ℕ) → Laid a b at p xs → at + 2 * length (xs ++ ys) ≤ length a → p + 2 * length ys ≤ length b
+room-next {xs = xs} ys f h = omega (arith, f .to, length-laid f, length-append xs ys)
+
+-- room for a number's bytes and what follows is room for the number
+pub room-be : (k n : ℕ) (l : List ℕ) (at : ℕ) (ys : List ℕ) → at + 2 * length (be k n ++ ys) ≤ length l → at + 2 * k ≤ length l
+room-be k n l at ys h = omega (arith, length-append (be k n) ys, length-be k n)
 
 -- the rest of the line lent on from place a, written from its front: the whole line, written from a
 pub laid-rest : (a : ℕ) (s : List ℕ) (bs : List ℕ) {e : List ℕ} {r : ℕ} → a ≤ length s → Laid (midOf a (length s - a) s) e 0 r bs → Laid s (putMid a (length s - a) s e) a (a + r) bs

@@ -19,3 +19,7 @@ symbolPlace s k = s * mostSymbols + k
 -- no record read and no symbol taken
 abbrev pub freshState : State
 freshState = record { number = 0; index = replicate subsequences 0 }
+
+-- the places of the flat table
+abbrev pub tableLength : ℕ
+tableLength = subsequences * mostSymbols

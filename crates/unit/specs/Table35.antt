@@ -1,10 +1,12 @@
 -- Table 35: conversions from numerical indexes to ASCII characters corresponding to alphabet symbols.
 -- Assumes nothing.
-use Prim.Native.Nat.{ℕ}
+use Prim.Native.Nat.{ℕ, _+_}
 use mathlib.Core.Bool.{cond}
 use mathlib.Core.List.{List, [], _∷_}
 use lib.Dec.{eqb}
 use lib.ListN.{length, getD}
+use Rattle.unit.specs.declared.alphabet.Code.{Code}
+use Rattle.unit.specs.declared.alphabet.Code.the-variants.{At, NoSymbol}
 
 -- S₀[0] to S₀[4]: A C G T N
 abbrev pub S₀ : List ℕ
@@ -32,3 +34,12 @@ letterOf alphabet index = getD (lettersOf alphabet) index 0
 -- where N stands
 unfoldable pub codeOfN : ℕ → ℕ
 codeOfN alphabet = cond (eqb alphabet 0) 4 14
+
+-- where a letter stands in a list whose first letter has the index i
+unfoldable pub codeFrom : ℕ → List ℕ → ℕ → Code
+codeFrom i [] symbol = NoSymbol
+codeFrom i (x ∷ xs) symbol = cond (eqb x symbol) (At i) (codeFrom (i + 1) xs symbol)
+
+-- Code[symbol], the inversion of S[index] (9.2)
+unfoldable pub codeOf : ℕ → ℕ → Code
+codeOf alphabet symbol = codeFrom 0 (lettersOf alphabet) symbol

@@ -31,6 +31,10 @@ lastAlphabet = 1
 abbrev pub mostSegments : ℕ
 mostSegments = 2
 
+-- the largest sequence id, a u16
+abbrev pub mostSequence : ℕ
+mostSequence = 65535
+
 abbrev pub mostRecords : ℕ
 mostRecords = 1024
 
@@ -51,4 +55,5 @@ unitRefusal u =
     (cond (ltb mostSegments (u .segments)) unitOut
     (cond (ltb (u .segments) (leastSegments (u .class))) unitOut
     (cond (ltb (u .end) (u .start)) unitOut
-    (cond (ltb mostRecords (u .records)) unitOut fine))))))
+    (cond (ltb mostRecords (u .records)) unitOut
+    (cond (ltb mostSequence (u .sequence)) unitOut fine)))))))

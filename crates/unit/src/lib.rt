@@ -1,5 +1,9 @@
 // The unit, the state carried between records, and their limits.
 pub mod alphabet;
+pub mod kind;
+pub mod pair_line;
+pub mod reference_line;
+pub mod unit_line;
 
 ghost use mathlib.Core.Path.{_≡_};
 ghost use Rattle.unit.specs.Unit.{unitRefusal, leastSegments};
@@ -36,6 +40,9 @@ impl Unit {
 
     // The most template segments.
     pub const SEGMENTS: u32 = 2;
+
+    // The largest sequence id, a u16 on the unit line.
+    pub const SEQUENCE: u32 = 65_535;
 
     // The most records.
     pub const RECORDS: u32 = 1_024;
@@ -75,6 +82,9 @@ impl Unit {
         if Unit::RECORDS < self.records {
             return refusal::UNIT_OUT;
         }
+        if Unit::SEQUENCE < self.sequence {
+            return refusal::UNIT_OUT;
+        }
         0
     }
 }
@@ -91,6 +101,9 @@ impl State {
 
     // The most symbols of a subsequence. In the flat table, symbol k of subsequence s stands at s * SYMBOLS + k.
     pub const SYMBOLS: u32 = 1_024;
+
+    // The places of the flat table.
+    pub const TABLE: usize = State::SUBSEQUENCES * (State::SYMBOLS as usize);
 
     pub fn fresh() -> State
         ensures { λ r. ⌜ r ≡ freshState ⌝ }

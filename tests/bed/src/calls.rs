@@ -1,7 +1,7 @@
 //! Single calls: a record, the pair symbols of a record, a block of a segment. For comparing functions with
 //! functions, without files and processes.
 
-use crate::damage::{damage_frame, damage_line, damage_record, damage_unit, own_symbol};
+use crate::damage::{cut_frame, damage_frame, damage_line, damage_record, damage_unit, own_symbol};
 use crate::frames::{block_frame, record_frame};
 use crate::model::{BlockModel, UnitModel};
 use crate::rng::Rng;
@@ -96,6 +96,9 @@ pub fn record_call(rng: &mut Rng) -> RecordCall {
     for _ in 0..times(5, 7) {
         damage_frame(rng, &model.unit, &mut frame);
     }
+    if times(0, 5) > 0 && rng.percent(20) {
+        cut_frame(rng, &mut frame);
+    }
     let mut line = frame.line();
     for _ in 0..times(7, 8) {
         damage_line(rng, &mut line);
@@ -134,7 +137,8 @@ fn damage_call(rng: &mut Rng, call: &mut RecordCall) {
         }
         _ => {
             let count = call.counts[subsequence];
-            call.state[1 + subsequence] = *rng.pick(&[0, count, count.wrapping_add(1), count.wrapping_add(1), u16::MAX]);
+            call.state[1 + subsequence] =
+                *rng.pick(&[0, count, count.wrapping_add(1), count.wrapping_add(1), u16::MAX]);
         }
     }
 }

@@ -2,11 +2,10 @@
 
 use crate::damage::*;
 use crate::found::found;
-use crate::frames::{reference_frames, unit_frame, unit_frames, Frame};
+use crate::frames::{reference_frames, unit_frame, unit_frames, Frame, HEAD_LINES};
 use crate::model::UnitModel;
 use crate::rng::Rng;
 use crate::valid::unit_model;
-use oracle::limits::SUBSEQUENCES;
 
 /// What a program is given: two files for the listing, three for resuming.
 #[derive(Clone, Debug, PartialEq, Eq)]
@@ -68,6 +67,8 @@ enum Step {
     Model,
     Unit,
     Frame,
+    /// A cut of the frame that other damage goes to: is a fault seen before the end is missed?
+    Cut,
     Reference,
     Lines,
     Line,
@@ -90,7 +91,8 @@ fn step(rng: &mut Rng) -> Step {
     match rng.below(100) {
         0..=47 => Step::Model,
         48..=52 => Step::Unit,
-        53..=74 => Step::Frame,
+        53..=66 => Step::Frame,
+        67..=74 => Step::Cut,
         75..=78 => Step::Reference,
         79..=84 => Step::Lines,
         85..=94 => Step::Line,
@@ -116,12 +118,23 @@ fn written(rng: &mut Rng, mut model: UnitModel, steps: &[Step]) -> Files {
         let at = some_line(rng, frames.len(), focus);
         damage_frame(rng, &model.unit, &mut frames[at]);
     }
+    // A fault in a record is often met together with a cut behind it.
+    let also_cut = times(Step::Model) > 0 && rng.percent(20);
+    for _ in 0..times(Step::Cut) + usize::from(also_cut) {
+        let at = (HEAD_LINES + focus).min(frames.len() - 1);
+        cut_frame(rng, &mut frames[at]);
+    }
     let mut reference = reference_frames(rng, &model.reference);
     for _ in 0..times(Step::Reference) {
         damage_reference(rng, &model.unit, &mut reference);
     }
     let mut unit = Text::of(&frames);
     let mut reference = Text::of(&reference);
+    if times(Step::Reference) > 0 && rng.percent(25) {
+        // No line at all behind the others, whose counts may be at their limits.
+        let spoilt: [&[u8]; 4] = [b"zz\n", b"0\n", b"07ZZ\n", b"0700"];
+        reference.lines.push(spoilt[rng.index(spoilt.len())].to_vec());
+    }
     for step in steps {
         // Now and then it is the reference's text that is damaged.
         let text = if rng.percent(12) { &mut reference } else { &mut unit };
@@ -132,11 +145,10 @@ fn written(rng: &mut Rng, mut model: UnitModel, steps: &[Step]) -> Files {
 
 /// The unit line, a pair line, the line of the record that other damage goes to, or any.
 fn some_line(rng: &mut Rng, lines: usize, focus: usize) -> usize {
-    let head = 1 + SUBSEQUENCES;
     match rng.below(10) {
         0 => 0,
-        1..=3 => rng.index(lines.min(head)),
-        4..=7 if head + focus < lines => head + focus,
+        1..=3 => rng.index(lines.min(HEAD_LINES)),
+        4..=7 if HEAD_LINES + focus < lines => HEAD_LINES + focus,
         _ => rng.index(lines),
     }
 }
@@ -176,11 +188,10 @@ impl Text {
 /// Damages record lines after the listing was made: resuming passes over some of them by their 0A only.
 fn damage_behind_the_pairs(rng: &mut Rng, unit: &mut Vec<u8>) {
     let mut lines: Vec<Vec<u8>> = unit.split_inclusive(|byte| *byte == b'\n').map(<[u8]>::to_vec).collect();
-    let head = 1 + SUBSEQUENCES;
-    if lines.len() <= head {
+    if lines.len() <= HEAD_LINES {
         return;
     }
-    let mut records = lines.split_off(head);
+    let mut records = lines.split_off(HEAD_LINES);
     match rng.below(4) {
         0 => records.truncate(rng.index(records.len())),
         1 => damage_lines(rng, &mut records),

@@ -9,7 +9,7 @@ use std::process::{Command, Stdio};
 use std::sync::atomic::{AtomicBool, AtomicU64, Ordering};
 use std::sync::Mutex;
 
-/// The two programs under test, and where their files are put.
+/// The two programs under test.
 #[derive(Clone, Debug)]
 pub struct Programs {
     pub list: PathBuf,
@@ -84,7 +84,9 @@ pub fn first_difference(
                 let nothing = matches!(ended, Ok(None));
                 if let (false, Ok(mut noticed)) = (nothing, noticed.lock()) {
                     stop.store(true, Ordering::Relaxed);
-                    *noticed = ended;
+                    if matches!(*noticed, Ok(None)) {
+                        *noticed = ended;
+                    }
                 }
             });
         }

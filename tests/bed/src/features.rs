@@ -1,6 +1,7 @@
 //! What a unit in order can have in it, so that a run can say what it has covered.
 
 use crate::model::*;
+use crate::valid::DELTA_MAX;
 use oracle::limits::{EDITS_MAX, READ_LENGTH_MAX, RECORDS_MAX, REFERENCE_MAX};
 use oracle::Class;
 
@@ -34,12 +35,15 @@ fn kinds_of_unit() -> Vec<Feature> {
                 if class == Class::HM && segments == 1 {
                     continue;
                 }
-                features.push(feature(format!("class {class:?}, alphabet {alphabet}, template segments {segments}"), move |model| {
-                    model.class() == class
-                        && model.unit.alphabet == alphabet
-                        && model.unit.template_segments == segments
-                        && !model.records.is_empty()
-                }));
+                features.push(feature(
+                    format!("class {class:?}, alphabet {alphabet}, template segments {segments}"),
+                    move |model| {
+                        model.class() == class
+                            && model.unit.alphabet == alphabet
+                            && model.unit.template_segments == segments
+                            && !model.records.is_empty()
+                    },
+                ));
             }
         }
     }
@@ -57,12 +61,17 @@ fn pair_codes() -> Vec<Feature> {
         }));
     }
     features.push(feature("class U with a sequence id that is no u16", |model| {
-        model.class() == Class::U && model.symbols[4].iter().chain(&model.symbols[5]).any(|value| *value > 0xffff)
+        model.class() == Class::U
+            && model.symbols[4].iter().chain(&model.symbols[5]).any(|value| *value > u32::from(u16::MAX))
     }));
     features.push(feature("mate at delta 0", |model| deltas(model).any(|value| value >> 1 == 0)));
-    features.push(feature("mate at delta 32,767", |model| deltas(model).any(|value| value >> 1 == 32_767)));
+    features.push(feature("mate at the greatest delta", |model| {
+        deltas(model).any(|value| u64::from(value >> 1) == DELTA_MAX)
+    }));
     features.push(feature("read1First 0 by the low bit", |model| deltas(model).any(|value| value & 1 == 1)));
-    features.push(feature("HM with an odd value", |model| model.class() == Class::HM && model.symbols[1].iter().any(|value| value & 1 == 1)));
+    features.push(feature("HM with an odd value", |model| {
+        model.class() == Class::HM && model.symbols[1].iter().any(|value| value & 1 == 1)
+    }));
     features
 }
 
@@ -92,8 +101,12 @@ fn reads() -> Vec<Feature> {
     };
     vec![
         feature("an aligned read of one base", |model| aligned(model).any(|block| block.length == 1)),
-        feature("an aligned read of the longest length", |model| aligned(model).any(|block| block.length == READ_LENGTH_MAX)),
-        feature("an unaligned read of one base", move |model| model.class() == Class::U && blocks(model).any(|block| length(block) == 1)),
+        feature("an aligned read of the longest length", |model| {
+            aligned(model).any(|block| block.length == READ_LENGTH_MAX)
+        }),
+        feature("an unaligned read of one base", move |model| {
+            model.class() == Class::U && blocks(model).any(|block| length(block) == 1)
+        }),
         feature("an unaligned read of the longest length", move |model| {
             model.class() == Class::U && blocks(model).any(|block| length(block) == READ_LENGTH_MAX)
         }),
@@ -104,7 +117,10 @@ fn reads() -> Vec<Feature> {
 /// Two neighbouring edits of these types, the second so many bases behind the first.
 fn neighbours(name: &str, first: u8, second: u8, behind: u16) -> Feature {
     any_aligned(name, move |block| {
-        block.edits.windows(2).any(|two| two[0].kind == first && two[1].kind == second && two[1].offset == two[0].offset + behind)
+        block
+            .edits
+            .windows(2)
+            .any(|two| two[0].kind == first && two[1].kind == second && two[1].offset == two[0].offset + behind)
     })
 }
 
@@ -112,11 +128,18 @@ fn edits() -> Vec<Feature> {
     vec![
         any_aligned("no edit", |block| block.edits.is_empty()),
         any_aligned("as many edits as there may be", |block| block.edits.len() == usize::from(EDITS_MAX)),
-        any_aligned("a substitution of the first base", |block| block.edits.first().is_some_and(|edit| edit.kind == SUBSTITUTION && edit.offset == 0)),
-        any_aligned("a substitution of the last base", |block| {
-            block.edits.last().is_some_and(|edit| edit.kind == SUBSTITUTION && u64::from(edit.offset) + 1 == block.mapped())
+        any_aligned("a substitution of the first base", |block| {
+            block.edits.first().is_some_and(|edit| edit.kind == SUBSTITUTION && edit.offset == 0)
         }),
-        any_aligned("a deletion before the first base", |block| block.edits.first().is_some_and(|edit| edit.kind == DELETION && edit.offset == 0)),
+        any_aligned("a substitution of the last base", |block| {
+            block
+                .edits
+                .last()
+                .is_some_and(|edit| edit.kind == SUBSTITUTION && u64::from(edit.offset) + 1 == block.mapped())
+        }),
+        any_aligned("a deletion before the first base", |block| {
+            block.edits.first().is_some_and(|edit| edit.kind == DELETION && edit.offset == 0)
+        }),
         any_aligned("a deletion after the last base", |block| {
             block.edits.last().is_some_and(|edit| edit.kind == DELETION && u64::from(edit.offset) == block.mapped())
         }),
@@ -161,7 +184,9 @@ fn first_segments(model: &UnitModel) -> impl Iterator<Item = (u64, &AlignedModel
 fn positions() -> Vec<Feature> {
     vec![
         feature("a segment at position 0", |model| first_segments(model).any(|(pos, _)| pos == 0)),
-        feature("a segment at the last position of all", |model| first_segments(model).any(|(pos, _)| pos == u64::from(u32::MAX))),
+        feature("a segment at the last position of all", |model| {
+            first_segments(model).any(|(pos, _)| pos == u64::from(u32::MAX))
+        }),
         feature("AU end at the last position of all", |model| model.unit.au_end == u32::MAX),
         feature("a unit of one position", |model| model.unit.au_start == model.unit.au_end),
         feature("a unit over all positions", |model| model.unit.au_start == 0 && model.unit.au_end == u32::MAX),
@@ -177,15 +202,23 @@ fn references() -> Vec<Feature> {
     vec![
         feature("an empty reference", |model| model.reference.is_empty()),
         feature("the longest reference", |model| model.reference.len() == REFERENCE_MAX),
-        feature("a reference that starts late", |model| !model.reference.is_empty() && model.unit.first > model.unit.au_start),
-        feature("a reference that starts before the unit", |model| !model.reference.is_empty() && model.unit.first < model.unit.au_start),
-        feature("a reference that ends early", move |model| !model.reference.is_empty() && end(model) <= u64::from(model.unit.au_end)),
+        feature("a reference that starts late", |model| {
+            !model.reference.is_empty() && model.unit.first > model.unit.au_start
+        }),
+        feature("a reference that starts before the unit", |model| {
+            !model.reference.is_empty() && model.unit.first < model.unit.au_start
+        }),
+        feature("a reference that ends early", move |model| {
+            !model.reference.is_empty() && end(model) <= u64::from(model.unit.au_end)
+        }),
         feature("a reference past the last position of all", move |model| end(model) > u64::from(u32::MAX) + 1),
         feature("a segment over the start of the reference", move |model| {
-            !model.reference.is_empty() && first_segments(model).any(|(pos, block)| pos < first(model) && first(model) < pos + block.taken())
+            !model.reference.is_empty()
+                && first_segments(model).any(|(pos, block)| pos < first(model) && first(model) < pos + block.taken())
         }),
         feature("a segment over the end of the reference", move |model| {
-            !model.reference.is_empty() && first_segments(model).any(|(pos, block)| pos < end(model) && end(model) < pos + block.taken())
+            !model.reference.is_empty()
+                && first_segments(model).any(|(pos, block)| pos < end(model) && end(model) < pos + block.taken())
         }),
     ]
 }

@@ -2,15 +2,11 @@
 
 use crate::cases::{listing_case, Files};
 use crate::damage::damage_line;
-use crate::frames::line;
+use crate::frames::{line, set_u16, u16_at, LISTED_INDEXES_AT, LISTED_NUMBER_AT, RECORD_COUNT_AT, SYMBOL_COUNT_AT};
 use crate::rng::Rng;
 use oracle::hex::{read_line, read_line_within, Lines};
 use oracle::kind;
 use oracle::limits::*;
-
-/// Where the record number and the indexes lie in an 04 frame.
-const NUMBER_AT: usize = 1;
-const INDEXES_AT: usize = 3;
 
 /// One thing that happened to the listing, then what stands behind it.
 pub fn found(rng: &mut Rng, files: &Files, listing: &[u8]) -> Vec<u8> {
@@ -24,7 +20,7 @@ pub fn found(rng: &mut Rng, files: &Files, listing: &[u8]) -> Vec<u8> {
         53..=54 => another_listing(rng),
         55..=58 => unit_line_again(rng, &lines),
         59..=66 => last_line_damaged(rng, &lines),
-        67..=71 => end_line(rng, &lines),
+        67..=71 => end_line(rng, files, &lines),
         72..=73 => any_last_line(rng, &lines),
         _ => record_line_changed(rng, files, &lines),
     };
@@ -68,7 +64,7 @@ fn first_line_changed(rng: &mut Rng, lines: &[Vec<u8>]) -> Vec<u8> {
 
 /// The listing of some other unit.
 fn another_listing(rng: &mut Rng) -> Vec<u8> {
-    let files = listing_case(rng.next(), 0);
+    let files = listing_case(rng.number(), 0);
     oracle::listing(&files.reference, &files.unit)
 }
 
@@ -86,12 +82,16 @@ fn last_line_damaged(rng: &mut Rng, lines: &[Vec<u8>]) -> Vec<u8> {
     kept.concat()
 }
 
-/// An 05 or 06 line of a right or wrong length, and of any content.
-fn end_line(rng: &mut Rng, lines: &[Vec<u8>]) -> Vec<u8> {
+/// An 05 or 06 line of a right or wrong length, true or false: whatever it says is believed.
+fn end_line(rng: &mut Rng, files: &Files, lines: &[Vec<u8>]) -> Vec<u8> {
     let mut kept = some_lines(rng, lines);
-    let length = *rng.pick(&[1, 2, 3, 3, 4, 4, 5]);
-    let mut bytes: Vec<u8> = (0..length).map(|_| rng.byte()).collect();
-    bytes[0] = *rng.pick(&[kind::REFUSED, kind::END]);
+    let count = record_count(&files.unit);
+    let any = rng.number() as u16;
+    let number = *rng.pick(&[0, count, count.wrapping_sub(1), count.wrapping_add(1), any]);
+    let [high, low] = number.to_be_bytes();
+    let kind = *rng.pick(&[kind::REFUSED, kind::END]);
+    let mut bytes = vec![kind, high, low, rng.below(20) as u8, rng.byte()];
+    bytes.truncate(*rng.pick(&[1, 2, END_FRAME, END_FRAME, REFUSED_FRAME, REFUSED_FRAME, 5]));
     kept.push(line(&bytes));
     kept.concat()
 }
@@ -128,30 +128,26 @@ fn record_line_changed(rng: &mut Rng, files: &Files, lines: &[Vec<u8>]) -> Vec<u
 }
 
 fn change_record_frame(rng: &mut Rng, files: &Files, bytes: &mut Vec<u8>) {
-    let set = |bytes: &mut Vec<u8>, at: usize, value: u16| {
-        if let Some(field) = bytes.get_mut(at..at + 2) {
-            field.copy_from_slice(&value.to_be_bytes());
-        }
-    };
     match rng.below(10) {
         0 => bytes.resize(LISTED_FRAME_LEAST - 1, 0),
         1 => bytes.resize(LISTED_FRAME_LEAST + rng.index(2), 0),
         2 => bytes.resize((LISTED_LINE_MAX - 1) / 2 + rng.index(2), 0),
         3..=5 => {
             let count = record_count(&files.unit);
-            let number = *rng.pick(&[0, 1, count.saturating_sub(2), count.saturating_sub(1), count, count.wrapping_add(1)]);
-            set(bytes, NUMBER_AT, number);
+            let number =
+                *rng.pick(&[0, 1, count.saturating_sub(2), count.saturating_sub(1), count, count.wrapping_add(1)]);
+            set_u16(bytes, LISTED_NUMBER_AT, number);
         }
         6..=8 => {
             let subsequence = rng.index(SUBSEQUENCES);
             let count = symbol_count(&files.unit, subsequence);
             let index = *rng.pick(&[0, count / 2, count.saturating_sub(1), count, count, count.wrapping_add(1)]);
-            set(bytes, INDEXES_AT + 2 * subsequence, index);
+            set_u16(bytes, LISTED_INDEXES_AT + 2 * subsequence, index);
         }
         _ => {
             let end = bytes.len().min(LISTED_FRAME_LEAST);
-            if end > NUMBER_AT {
-                let at = rng.between(NUMBER_AT as u64, end as u64 - 1) as usize;
+            if end > LISTED_NUMBER_AT {
+                let at = rng.between(LISTED_NUMBER_AT as u64, end as u64 - 1) as usize;
                 bytes[at] = rng.byte();
             }
         }
@@ -160,12 +156,12 @@ fn change_record_frame(rng: &mut Rng, files: &Files, bytes: &mut Vec<u8>) {
 
 /// The record count of a unit file, 0 where it has none.
 fn record_count(unit: &[u8]) -> u16 {
-    frame_of(unit, 0).and_then(|bytes| two_at(&bytes, 18)).unwrap_or(0)
+    frame_of(unit, 0).and_then(|bytes| u16_at(&bytes, RECORD_COUNT_AT)).unwrap_or(0)
 }
 
 /// The symbol count of a pair line, 0 where there is none.
 fn symbol_count(unit: &[u8], subsequence: usize) -> u16 {
-    frame_of(unit, 1 + subsequence).and_then(|bytes| two_at(&bytes, 2)).unwrap_or(0)
+    frame_of(unit, 1 + subsequence).and_then(|bytes| u16_at(&bytes, SYMBOL_COUNT_AT)).unwrap_or(0)
 }
 
 fn frame_of(file: &[u8], number: usize) -> Option<Vec<u8>> {
@@ -174,9 +170,4 @@ fn frame_of(file: &[u8], number: usize) -> Option<Vec<u8>> {
         lines.take().ok()?;
     }
     read_line(lines.take().ok()?).ok()
-}
-
-fn two_at(bytes: &[u8], at: usize) -> Option<u16> {
-    let field = bytes.get(at..at + 2)?;
-    Some(u16::from_be_bytes([field[0], field[1]]))
 }

@@ -3,8 +3,30 @@
 use crate::model::{AlignedModel, BlockModel, RecordModel, UnalignedModel, UnitModel};
 use crate::rng::Rng;
 use oracle::kind;
-use oracle::limits::REFERENCE_LINE_MAX;
+use oracle::limits::{REFERENCE_LINE_MAX, SUBSEQUENCES};
 use oracle::{Class, UnitNumbers};
+
+/// Lines of a unit file before its first record line: the unit line and the pair lines.
+pub const HEAD_LINES: usize = 1 + SUBSEQUENCES;
+/// Where the record count lies in a unit frame, and the symbol count in a pair frame.
+pub const RECORD_COUNT_AT: usize = 18;
+pub const SYMBOL_COUNT_AT: usize = 2;
+/// Where the record number and the indexes lie in an 04 frame.
+pub const LISTED_NUMBER_AT: usize = 1;
+pub const LISTED_INDEXES_AT: usize = 3;
+
+/// The u16 at this place of a frame.
+pub fn u16_at(bytes: &[u8], at: usize) -> Option<u16> {
+    let field = bytes.get(at..at + 2)?;
+    Some(u16::from_be_bytes([field[0], field[1]]))
+}
+
+/// Writes a u16 where the frame is long enough for it.
+pub fn set_u16(bytes: &mut [u8], at: usize, value: u16) {
+    if let Some(field) = bytes.get_mut(at..at + 2) {
+        field.copy_from_slice(&value.to_be_bytes());
+    }
+}
 
 #[derive(Clone, Copy, Debug, PartialEq, Eq)]
 pub enum Field {

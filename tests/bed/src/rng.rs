@@ -10,13 +10,13 @@ impl Rng {
     /// A generator for one case of a run, so that any case can be made again without those before it.
     pub fn for_case(seed: u64, case: u64) -> Rng {
         let mut rng = Rng(seed);
-        let start = rng.next();
+        let start = rng.number();
         let mut rng = Rng(start ^ case.wrapping_mul(0x9e37_79b9_7f4a_7c15));
-        rng.next();
+        rng.number();
         rng
     }
 
-    pub fn next(&mut self) -> u64 {
+    pub fn number(&mut self) -> u64 {
         self.0 = self.0.wrapping_add(0x9e37_79b9_7f4a_7c15);
         let mut mixed = self.0;
         mixed = (mixed ^ (mixed >> 30)).wrapping_mul(0xbf58_476d_1ce4_e5b9);
@@ -26,7 +26,7 @@ impl Rng {
 
     /// A number below `end`, which is not 0.
     pub fn below(&mut self, end: u64) -> u64 {
-        ((u128::from(self.next()) * u128::from(end)) >> 64) as u64
+        ((u128::from(self.number()) * u128::from(end)) >> 64) as u64
     }
 
     /// A number from `low` to `high`, both possible.
@@ -34,7 +34,7 @@ impl Rng {
         debug_assert!(low <= high);
         match (high - low).checked_add(1) {
             Some(numbers) => low + self.below(numbers),
-            None => self.next(),
+            None => self.number(),
         }
     }
 
@@ -52,6 +52,6 @@ impl Rng {
     }
 
     pub fn byte(&mut self) -> u8 {
-        self.next() as u8
+        self.number() as u8
     }
 }

@@ -1,15 +1,12 @@
 //! Making a case that shows a difference small: records are dropped while the difference stays.
 
 use crate::cases::Files;
-use crate::frames::{line, pair_frame};
+use crate::frames::{
+    line, pair_frame, set_u16, u16_at, HEAD_LINES, LISTED_INDEXES_AT, LISTED_NUMBER_AT, RECORD_COUNT_AT,
+};
 use oracle::hex::{read_line, read_line_within};
 use oracle::limits::{LISTED_FRAME_LEAST, LISTED_LINE_MAX, SUBSEQUENCES};
 use oracle::pairing::read_pair_line;
-
-/// Lines before the first record line: the unit line and the pair lines.
-const HEAD: usize = 1 + SUBSEQUENCES;
-/// Where the record count lies in a unit frame.
-const RECORD_COUNT_AT: usize = 18;
 
 /// The smallest case found, which differs as `files` does.
 pub fn shrink(files: Files, differs: impl Fn(&Files) -> bool) -> Files {
@@ -42,7 +39,7 @@ fn lines_of(file: &[u8]) -> Vec<Vec<u8>> {
 }
 
 pub fn records(unit: &[u8]) -> usize {
-    lines_of(unit).len().saturating_sub(HEAD)
+    lines_of(unit).len().saturating_sub(HEAD_LINES)
 }
 
 /// Lines between the first and the last have no say in resuming.
@@ -70,7 +67,7 @@ fn without_records(files: &Files, start: usize, end: usize) -> Option<Files> {
         symbols.drain(from..to);
         lines[1 + subsequence] = pair_frame(subsequence as u8, &symbols).line();
     }
-    lines.drain(HEAD + start..HEAD + end);
+    lines.drain(HEAD_LINES + start..HEAD_LINES + end);
     let found = files.found.as_ref().map(|found| {
         let taken = std::array::from_fn(|at| behind[at].saturating_sub(before[at]));
         found_without(found, &old_unit_line, &lines[0], start as u16, end as u16, taken)
@@ -81,8 +78,8 @@ fn without_records(files: &Files, start: usize, end: usize) -> Option<Files> {
 /// Symbols taken by the first records, as far as they were listed.
 fn indexes_after(files: &Files, records: usize) -> [u16; SUBSEQUENCES] {
     let listing = oracle::listing(&files.reference, &files.unit);
-    let listed = lines_of(&listing).into_iter().skip(1).take(records).filter_map(|line| listed_frame(&line));
-    listed.last().map_or([0; SUBSEQUENCES], |bytes| indexes(&bytes))
+    let mut listed = lines_of(&listing).into_iter().skip(1).take(records).filter_map(|line| listed_frame(&line));
+    listed.next_back().map_or([0; SUBSEQUENCES], |bytes| indexes(&bytes))
 }
 
 fn listed_frame(line: &[u8]) -> Option<Vec<u8>> {
@@ -91,14 +88,13 @@ fn listed_frame(line: &[u8]) -> Option<Vec<u8>> {
 }
 
 fn indexes(bytes: &[u8]) -> [u16; SUBSEQUENCES] {
-    std::array::from_fn(|at| u16::from_be_bytes([bytes[3 + 2 * at], bytes[4 + 2 * at]]))
+    std::array::from_fn(|at| u16_at(bytes, LISTED_INDEXES_AT + 2 * at).unwrap_or(0))
 }
 
 fn with_fewer_records(unit_line: &[u8], fewer: u16) -> Option<Vec<u8>> {
     let mut bytes = read_line(unit_line).ok()?;
-    let field = bytes.get_mut(RECORD_COUNT_AT..RECORD_COUNT_AT + 2)?;
-    let count = u16::from_be_bytes([field[0], field[1]]).checked_sub(fewer)?;
-    field.copy_from_slice(&count.to_be_bytes());
+    let count = u16_at(&bytes, RECORD_COUNT_AT)?.checked_sub(fewer)?;
+    set_u16(&mut bytes, RECORD_COUNT_AT, count);
     Some(line(&bytes))
 }
 
@@ -113,23 +109,23 @@ fn found_without(
 ) -> Vec<u8> {
     let mut out = Vec::new();
     for text in lines_of(found) {
-        let frame = listed_frame(&text);
-        match frame {
-            _ if text == old_unit_line => out.extend_from_slice(unit_line),
-            Some(mut bytes) => {
-                let number = u16::from_be_bytes([bytes[1], bytes[2]]);
-                if number >= end {
-                    bytes[1..3].copy_from_slice(&(number - (end - start)).to_be_bytes());
-                    for (at, index) in indexes(&bytes).into_iter().enumerate() {
-                        let index = index.saturating_sub(taken[at]);
-                        bytes[3 + 2 * at..5 + 2 * at].copy_from_slice(&index.to_be_bytes());
-                    }
-                    out.extend(line(&bytes));
-                } else if number < start {
-                    out.extend(text);
-                }
+        if text == old_unit_line {
+            out.extend_from_slice(unit_line);
+            continue;
+        }
+        let Some(mut bytes) = listed_frame(&text) else {
+            out.extend(text);
+            continue;
+        };
+        let number = u16_at(&bytes, LISTED_NUMBER_AT).unwrap_or(0);
+        if number < start {
+            out.extend(text);
+        } else if number >= end {
+            set_u16(&mut bytes, LISTED_NUMBER_AT, number - (end - start));
+            for (at, index) in indexes(&bytes).into_iter().enumerate() {
+                set_u16(&mut bytes, LISTED_INDEXES_AT + 2 * at, index.saturating_sub(taken[at]));
             }
-            None => out.extend(text),
+            out.extend(line(&bytes));
         }
     }
     out

@@ -9,7 +9,7 @@ use oracle::{Class, Symbols, UnitNumbers};
 
 const LAST_POSITION: u64 = u32::MAX as u64;
 /// The greatest distance of a mate in the same record: 65,535 halved.
-const DELTA_MAX: u64 = (u16::MAX / 2) as u64;
+pub const DELTA_MAX: u64 = (u16::MAX / 2) as u64;
 
 /// A valid unit with a few records, now and then with none or very many.
 pub fn unit_model(rng: &mut Rng) -> UnitModel {
@@ -70,7 +70,7 @@ fn u16_edge(rng: &mut Rng) -> u16 {
     match rng.below(4) {
         0 => 0,
         1 => u16::MAX,
-        _ => rng.next() as u16,
+        _ => rng.number() as u16,
     }
 }
 
@@ -79,7 +79,7 @@ fn u32_edge(rng: &mut Rng) -> u32 {
         0 => 0,
         1 => u32::MAX,
         2 => rng.below(1_000) as u32,
-        _ => rng.next() as u32,
+        _ => rng.number() as u32,
     }
 }
 
@@ -379,7 +379,10 @@ fn longest_block(rng: &mut Rng, longest: Longest) -> AlignedModel {
         Longest::Input => {
             let left = rng.below(u64::from(length)) as u16;
             let before = rng.below(u64::from(EDITS_MAX) + 1) as u16;
-            ([left, 0, length - 1 - left, 1], (0..EDITS_MAX).map(|number| deletion(u16::from(number >= before))).collect())
+            (
+                [left, 0, length - 1 - left, 1],
+                (0..EDITS_MAX).map(|number| deletion(u16::from(number >= before))).collect(),
+            )
         }
         Longest::Ecigar => ([0, u16::MAX, 0, u16::MAX], (1..=EDITS_MAX).map(deletion).collect()),
     };

@@ -235,7 +235,10 @@ fn room_decides_last() {
         call.room = length;
         assert_eq!(call.expected(), widest);
         call.room = length - 1;
-        assert_eq!(call.expected().map_err(oracle::Refusal::number).err(), Some(widest.map_or_else(oracle::Refusal::number, |_| 17)));
+        assert_eq!(
+            call.expected().map_err(oracle::Refusal::number).err(),
+            Some(widest.map_or_else(oracle::Refusal::number, |_| 17))
+        );
     }
 }
 
@@ -243,7 +246,9 @@ fn room_decides_last() {
 #[test]
 fn half_of_the_calls_are_accepted() {
     let cases = 4_000;
-    let part = |accepted: &dyn Fn(&mut Rng) -> bool| (0..cases).filter(|case| accepted(&mut Rng::for_case(SEED, *case))).count();
+    let part = |accepted: &dyn Fn(&mut Rng) -> bool| {
+        (0..cases).filter(|case| accepted(&mut Rng::for_case(SEED, *case))).count()
+    };
     let quarter = cases as usize / 4;
     for (name, accepted) in [
         ("record", part(&|rng| record_call(rng).expected().is_ok())),

@@ -110,12 +110,16 @@ fn a_resume_that_starts_afresh_is_found_and_kept() {
 /// A difference that one record brings about is shrunk to that record, with its symbols.
 #[test]
 fn shrinking_leaves_what_is_needed() {
-    let (model, files) = (0..).map(|case| valid_case(8, case)).find(|(model, _)| model.unit.class == 1 && model.records.len() > 20).unwrap();
+    let (model, files) = (0..)
+        .map(|case| valid_case(8, case))
+        .find(|(model, _)| model.unit.class == 1 && model.records.len() > 20)
+        .unwrap();
     let wanted = format!("{:08x}", model.records[7].pos);
     // "Differs" while some 04 line has a segment at that position and the unit is still in order.
     let differs = |files: &Files| {
         let listing = String::from_utf8(files.expected()).unwrap();
-        listing.contains("\n06") && listing.lines().any(|line| line.starts_with("04") && line.get(56..64) == Some(&wanted))
+        listing.contains("\n06")
+            && listing.lines().any(|line| line.starts_with("04") && line.get(56..64) == Some(&wanted))
     };
     assert!(differs(&files));
     let small = shrink(files, differs);
@@ -126,7 +130,10 @@ fn shrinking_leaves_what_is_needed() {
 /// Where the last kept line matters, shrinking moves it along with the records that go.
 #[test]
 fn shrinking_a_resume_keeps_its_last_line() {
-    let (model, mut files) = (0..).map(|case| valid_case(9, case)).find(|(model, _)| model.unit.class == 1 && model.records.len() > 20).unwrap();
+    let (model, mut files) = (0..)
+        .map(|case| valid_case(9, case))
+        .find(|(model, _)| model.unit.class == 1 && model.records.len() > 20)
+        .unwrap();
     let listing = files.expected();
     let lines: Vec<&[u8]> = listing.split_inclusive(|byte| *byte == b'\n').collect();
     files.found = Some(lines[..12].concat());

@@ -32,23 +32,27 @@ pub fn read_line_within(line: &[u8], digits_max: usize) -> Result<Vec<u8>, Refus
     if digits.len() > digits_max || digits.len() % 2 != 0 {
         return Err(Refusal::Digits);
     }
-    let mut bytes = Vec::with_capacity(digits.len() / 2);
-    for two in digits.chunks_exact(2) {
+    let mut bytes = vec![0; digits.len() / 2];
+    let mut seen = 0;
+    for (byte, two) in bytes.iter_mut().zip(digits.chunks_exact(2)) {
         let (high, low) = (VALUES[two[0] as usize], VALUES[two[1] as usize]);
-        if high == NO_DIGIT || low == NO_DIGIT {
-            return Err(Refusal::Digits);
-        }
-        bytes.push(high << 4 | low);
+        seen |= high | low;
+        *byte = high << 4 | low;
+    }
+    // Only a byte that is no digit has a value above 15.
+    if seen > 15 {
+        return Err(Refusal::Digits);
     }
     Ok(bytes)
 }
 
 /// Adds one line, its 0A included.
 pub fn write_line(out: &mut Vec<u8>, bytes: &[u8]) {
-    out.reserve(2 * bytes.len() + 1);
-    for byte in bytes {
-        out.push(DIGITS[(byte >> 4) as usize]);
-        out.push(DIGITS[(byte & 15) as usize]);
+    let start = out.len();
+    out.resize(start + 2 * bytes.len(), 0);
+    for (two, byte) in out[start..].chunks_exact_mut(2).zip(bytes) {
+        two[0] = DIGITS[(byte >> 4) as usize];
+        two[1] = DIGITS[(byte & 15) as usize];
     }
     out.push(NEWLINE);
 }

@@ -66,7 +66,12 @@ pub fn counts_of(symbols: &Symbols) -> [u16; SUBSEQUENCES] {
 
 /// Takes one record's pair symbols (Table 60). The state that comes back has the indexes moved on and the
 /// number as it was; a refusal leaves the caller with the state it had.
-pub fn pair(unit: &Unit, symbols: &Symbols, counts: &[u16; SUBSEQUENCES], state: &State) -> Result<(Link, State), Refusal> {
+pub fn pair(
+    unit: &Unit,
+    symbols: &Symbols,
+    counts: &[u16; SUBSEQUENCES],
+    state: &State,
+) -> Result<(Link, State), Refusal> {
     let mut taker = Taker { symbols, counts, state: state.clone() };
     let link = if unit.template_segments == 1 {
         Link { segments: 1, split_mate: 0, read1_first: 1, mate: Mate::None }
@@ -86,7 +91,12 @@ fn coded(unit: &Unit, taker: &mut Taker) -> Result<Link, Refusal> {
     match code {
         0 if aligned => {
             let value = taker.take_u16(1)?;
-            Ok(Link { segments: 2, split_mate: 0, read1_first: read1_first(value), mate: Mate::Behind { delta: value >> 1 } })
+            Ok(Link {
+                segments: 2,
+                split_mate: 0,
+                read1_first: read1_first(value),
+                mate: Mate::Behind { delta: value >> 1 },
+            })
         }
         // In class U subsequence 1 is not touched.
         0 => Ok(Link { segments: 2, split_mate: 0, read1_first: 1, mate: Mate::None }),
@@ -113,7 +123,11 @@ fn split(read1_first: u8, aligned: bool, mate: Mate) -> Link {
 }
 
 fn read1_first(value: u16) -> u8 {
-    if value & 1 == 1 { 0 } else { 1 }
+    if value & 1 == 1 {
+        0
+    } else {
+        1
+    }
 }
 
 fn as_u16(value: u32) -> Result<u16, Refusal> {

@@ -103,7 +103,13 @@ pub(crate) fn decode(
 }
 
 /// Each block is finished, 13 and 10 included, before the next one is read (reading 10).
-fn segments(unit: &Unit, reference: Reference, link: &Link, pos: u32, frame: &mut Frame) -> Result<Vec<Segment>, Refusal> {
+fn segments(
+    unit: &Unit,
+    reference: Reference,
+    link: &Link,
+    pos: u32,
+    frame: &mut Frame,
+) -> Result<Vec<Segment>, Refusal> {
     let mut segments = Vec::with_capacity(usize::from(link.segments));
     for number in 0..link.segments {
         let aligned = match unit.class {
@@ -138,9 +144,13 @@ fn mate(unit: &Unit, link: &Link, pos: u32) -> (u16, u32) {
     }
 }
 
+/// Bytes of a listed segment beside its bases and its E-CIGAR: position, rcomp and two lengths.
+const SEGMENT_FIELDS: usize = 4 + 1 + 2 + 2;
+
 /// Adds the record's 04 line with its 0A.
 pub(crate) fn print(record: &Record, out: &mut Vec<u8>) {
-    let lengths: usize = record.segments.iter().map(|segment| segment.bases.len() + segment.ecigar.len() + 9).sum();
+    let lengths: usize =
+        record.segments.iter().map(|segment| segment.bases.len() + segment.ecigar.len() + SEGMENT_FIELDS).sum();
     let mut bytes = Vec::with_capacity(LISTED_FRAME_LEAST + lengths);
     bytes.push(kind::LISTED);
     bytes.extend(record.number.to_be_bytes());

@@ -81,7 +81,12 @@ pub fn unaligned_segment(alphabet: Alphabet, frame: &[u8], offset: usize) -> Res
     Ok((segment, frame.at()))
 }
 
-pub(crate) fn take_aligned(unit: &Unit, reference: Reference, position: u64, frame: &mut Frame) -> Result<Segment, Refusal> {
+pub(crate) fn take_aligned(
+    unit: &Unit,
+    reference: Reference,
+    position: u64,
+    frame: &mut Frame,
+) -> Result<Segment, Refusal> {
     let block = read_block(unit, frame)?;
     let runs = runs(&block);
     let position = checked_position(unit, position, &runs)?;
@@ -245,7 +250,13 @@ fn checked_position(unit: &Unit, position: u64, runs: &[Run]) -> Result<u32, Ref
     Ok(position as u32)
 }
 
-fn bases(alphabet: Alphabet, reference: Reference, position: u32, block: &Block, runs: &[Run]) -> Result<Vec<u8>, Refusal> {
+fn bases(
+    alphabet: Alphabet,
+    reference: Reference,
+    position: u32,
+    block: &Block,
+    runs: &[Run],
+) -> Result<Vec<u8>, Refusal> {
     let clips = &block.clips;
     let mut bases = Vec::with_capacity(clips.left_soft.len() + block.mapped_length + clips.right_soft.len());
     bases.extend_from_slice(&clips.left_soft);

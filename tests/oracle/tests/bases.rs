@@ -66,7 +66,8 @@ fn reading_17_class_n_and_the_letter_minus() {
     unit.alphabet = 1;
     assert_eq!(unit.segment().bases, "ANNTN");
     // Inserted or substituted, index 15 is a base of the read; a deletion beside it stays a deletion.
-    let mut minus = given(I).with(record(100, &[block_i(4, [0; 4], &[(1, SUBSTITUTION, 15), (2, DELETION, 0), (2, INSERTION, 15)])]));
+    let mut minus = given(I)
+        .with(record(100, &[block_i(4, [0; 4], &[(1, SUBSTITUTION, 15), (2, DELETION, 0), (2, INSERTION, 15)])]));
     minus.alphabet = 1;
     assert_eq!(minus.segment().bases, "A--T");
     assert_eq!(minus.segment().ecigar, "1=-1-1+1=");
@@ -123,7 +124,8 @@ fn soft_clipped_bases_stand_left_then_right() {
 #[test]
 fn table_93_runs() {
     let (s, i, d) = (SUBSTITUTION, INSERTION, DELETION);
-    let cases: [(&[(u16, u8, u8)], &str, &str); 9] = [
+    type Case<'a> = (&'a [(u16, u8, u8)], &'a str, &'a str);
+    let cases: [Case; 9] = [
         (&[(0, i, 3), (1, i, 3), (2, i, 3), (3, i, 3)], "4+", "TTTT"),
         (&[(0, s, 3), (1, s, 3), (2, s, 3), (3, s, 3)], "TTTT", "TTTT"),
         (&[(1, i, 3), (2, d, 0), (2, i, 3)], "1=1+1-1+1=", "ATTG"),
@@ -175,9 +177,13 @@ fn offsets_at_their_edges() {
 
 #[test]
 fn offsets_in_classes_n_and_m() {
-    let refused_n = |offsets: &[u16]| given(N).with(record(100, &[block_n(4, offsets)])).refusal().map(|refusal| refusal.1);
-    let refused_m = |edits: &[(u16, u8)]| given(M).with(record(100, &[block_m(4, edits)])).refusal().map(|refusal| refusal.1);
-    for (offsets, expected) in [([0, 3], None), ([2, 3], None), ([1, 1], Some(12)), ([2, 1], Some(12)), ([3, 4], Some(12))] {
+    let refused_n =
+        |offsets: &[u16]| given(N).with(record(100, &[block_n(4, offsets)])).refusal().map(|refusal| refusal.1);
+    let refused_m =
+        |edits: &[(u16, u8)]| given(M).with(record(100, &[block_m(4, edits)])).refusal().map(|refusal| refusal.1);
+    for (offsets, expected) in
+        [([0, 3], None), ([2, 3], None), ([1, 1], Some(12)), ([2, 1], Some(12)), ([3, 4], Some(12))]
+    {
         assert_eq!(refused_n(&offsets), expected, "{offsets:?}");
         assert_eq!(refused_m(&offsets.map(|offset| (offset, 1))), expected, "{offsets:?}");
     }
@@ -185,7 +191,9 @@ fn offsets_in_classes_n_and_m() {
 
 #[test]
 fn read_lengths_at_their_edges() {
-    for (length, expected) in [(0, Some((0, 8))), (1, None), (1_000, None), (1_001, Some((0, 8))), (65_535, Some((0, 8)))] {
+    for (length, expected) in
+        [(0, Some((0, 8))), (1, None), (1_000, None), (1_001, Some((0, 8))), (65_535, Some((0, 8)))]
+    {
         assert_eq!(given(P).with(record(100, &[block_p(length)])).refusal(), expected);
         // As many bases as a line has room for: the length is refused before they are looked at.
         let bases = vec![0; usize::from(length.min(1_001))];

@@ -51,7 +51,8 @@ fn example_5_deletions_join() {
 
 #[test]
 fn example_6_deletion_then_substitution() {
-    let segment = given(I).with(record(100, &[block_i(3, [0; 4], &[(1, DELETION, 0), (1, SUBSTITUTION, 2)])])).segment();
+    let segment =
+        given(I).with(record(100, &[block_i(3, [0; 4], &[(1, DELETION, 0), (1, SUBSTITUTION, 2)])])).segment();
     assert_eq!(segment.ecigar, "1=1-G1=");
     assert_eq!(segment.bases, "AGT");
 }

@@ -197,7 +197,8 @@ fn reading_3_the_longest_input_line() {
 
 #[test]
 fn reading_4_reference_lines() {
-    let lines = |lengths: &[usize]| lengths.iter().map(|length| reference_line(&vec![0; *length])).collect::<Vec<_>>().concat();
+    let lines =
+        |lengths: &[usize]| lengths.iter().map(|length| reference_line(&vec![0; *length])).collect::<Vec<_>>().concat();
     let number = |file: &[u8]| number(read_reference(file));
     assert_eq!(read_reference(b""), Ok(vec![]));
     assert_eq!(read_reference(b"070001\n07ff\n"), Ok(vec![0, 1, 255]));
@@ -290,7 +291,8 @@ fn the_programs_print_what_the_functions_answer() {
     let folder = std::env::temp_dir().join(format!("oracle-lines-{}", std::process::id()));
     std::fs::create_dir_all(&folder).unwrap();
     let found = [&small().listing()[..60], &[0; 9]].concat();
-    let contents = [("reference.hex", small().reference_file()), ("unit.hex", small().file()), ("found.hex", found.clone())];
+    let contents =
+        [("reference.hex", small().reference_file()), ("unit.hex", small().file()), ("found.hex", found.clone())];
     let paths = contents.map(|(name, bytes)| {
         std::fs::write(folder.join(name), bytes).unwrap();
         folder.join(name)

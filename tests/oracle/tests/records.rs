@@ -207,7 +207,10 @@ fn mate_fields_as_listed() {
 #[test]
 fn indexes_are_those_after_the_record() {
     let unit = given(P).symbol(0, 5).symbol(0, 0).symbol(1, 0).symbol(0, 3).symbol(4, 1).symbol(6, 1);
-    let unit = unit.with(record(100, &[block_p(1)])).with(record(100, &[block_p(1), block_p(1)])).with(record(100, &[block_p(1)]));
+    let unit = unit
+        .with(record(100, &[block_p(1)]))
+        .with(record(100, &[block_p(1), block_p(1)]))
+        .with(record(100, &[block_p(1)]));
     let indexes: Vec<_> = unit.listed().into_iter().map(|listed| (listed.number, listed.indexes)).collect();
     assert_eq!(indexes[0], (0, vec![1, 0, 0, 0, 0, 0, 0, 0]));
     assert_eq!(indexes[1], (1, vec![2, 1, 0, 0, 0, 0, 0, 0]));
@@ -308,14 +311,13 @@ fn order_without_faults_is_accepted() {
 
 #[test]
 fn order_each_fault_alone_and_before_every_later_one() {
-    for first in 0..FAULTS.len() {
-        assert_eq!(faulty(&[first]).refusal(), FAULTS[first].1, "{}", FAULTS[first].0);
-        for second in first + 1..FAULTS.len() {
-            let names = (FAULTS[first].0, FAULTS[second].0);
-            assert_eq!(faulty(&[first, second]).refusal(), FAULTS[first].1, "{names:?}");
+    for (first, (name, number)) in FAULTS.into_iter().enumerate() {
+        assert_eq!(faulty(&[first]).refusal(), number, "{name}");
+        for (second, (other, _)) in FAULTS.into_iter().enumerate().skip(first + 1) {
+            assert_eq!(faulty(&[first, second]).refusal(), number, "{name}, then {other}");
         }
         let rest: Vec<_> = (first..FAULTS.len()).collect();
-        assert_eq!(faulty(&rest).refusal(), FAULTS[first].1, "{} and all behind it", FAULTS[first].0);
+        assert_eq!(faulty(&rest).refusal(), number, "{name} and all behind it");
     }
 }
 

@@ -62,11 +62,21 @@ fn compare(options: &Options, folder: &Path) -> io::Result<bool> {
     Ok(listings && part(options, folder, "resume", options.resumes, |case| resume_case(seed, case))?)
 }
 
-fn part(options: &Options, folder: &Path, name: &str, count: u64, case: impl Fn(u64) -> Files + Sync) -> io::Result<bool> {
+fn part(
+    options: &Options,
+    folder: &Path,
+    name: &str,
+    count: u64,
+    case: impl Fn(u64) -> Files + Sync,
+) -> io::Result<bool> {
     let start = Instant::now();
     match first_difference(&options.programs, folder, WORKERS, count, case)? {
         None => {
-            println!("{name}: {count} cases of seed {} are the same ({:.1} s)", options.seed, start.elapsed().as_secs_f64());
+            println!(
+                "{name}: {count} cases of seed {} are the same ({:.1} s)",
+                options.seed,
+                start.elapsed().as_secs_f64()
+            );
             Ok(true)
         }
         Some((number, difference)) => {

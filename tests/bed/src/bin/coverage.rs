@@ -35,14 +35,26 @@ fn main() -> ExitCode {
         ("listing", listings(seed, units), wanted(Refusal::Digits, Refusal::Lines)),
         ("resuming", refused_resumes(seed, resumes), wanted(Refusal::FirstLine, Refusal::LastLine)),
         ("record call", answers(seed, calls, |rng| record_call(rng).expected().err()), record_numbers()),
-        ("pair call", answers(seed, calls, |rng| pair_call(rng).expected().err()), wanted(Refusal::SymbolsUsedUp, Refusal::PairValue)),
-        ("segment call", answers(seed, calls, |rng| segment_call(rng).expected().err()), wanted(Refusal::ReadLength, Refusal::Position)),
+        (
+            "pair call",
+            answers(seed, calls, |rng| pair_call(rng).expected().err()),
+            wanted(Refusal::SymbolsUsedUp, Refusal::PairValue),
+        ),
+        (
+            "segment call",
+            answers(seed, calls, |rng| segment_call(rng).expected().err()),
+            wanted(Refusal::ReadLength, Refusal::Position),
+        ),
     ];
     let seldom = [print_numbers(&columns), print_features(seed, units)].concat();
     for line in &seldom {
         println!("too seldom: {line}");
     }
-    if seldom.is_empty() { ExitCode::SUCCESS } else { ExitCode::FAILURE }
+    if seldom.is_empty() {
+        ExitCode::SUCCESS
+    } else {
+        ExitCode::FAILURE
+    }
 }
 
 fn wanted(first: Refusal, last: Refusal) -> Vec<u8> {

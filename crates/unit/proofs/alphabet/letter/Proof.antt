@@ -2,7 +2,7 @@
 use mathlib.Core.Path.{sym}
 use lib.ListN.{List·getD-eq-default}
 use Rattle.unit.specs.Table35.{S₀, S₁, letterOf}
-use borrow.Author.Tests.{eq-eqb, le-ltb, lt-ltb, ne-eqb}
+use borrow.Author.Tests.{eq-eqb, ne-eqb}
 use borrow.Author.Needs.{needs}
 use Rattle.unit.proofs.alphabet.letter.Statement.{statement}
 use Rattle.unit.proofs.alphabet.letter.Tie as tie
@@ -12,7 +12,7 @@ array-read-result c = search needs
 
 returns : tie.Need-returns
 unfolding letterOf
-returns c = simp (eq-eqb _ _ (c .before .if1 .taken), lt-ltb _ _ (c .if2 .taken))
+returns c = simp (eq-eqb _ _ (c .before .if1 .taken))
 
 returns-2 : tie.Need-returns-2
 unfolding letterOf
@@ -23,7 +23,7 @@ array-read-result-2 c = search needs
 
 returns-3 : tie.Need-returns-3
 unfolding letterOf
-returns-3 c = simp (ne-eqb _ _ (c .before .if1 .left), lt-ltb _ _ (c .if3 .taken))
+returns-3 c = simp (ne-eqb _ _ (c .before .if1 .left))
 
 returns-4 : tie.Need-returns-4
 unfolding letterOf

@@ -1,13 +1,11 @@
-//! Damage, at each step from model to file. A kind of damage that does not fit a case says so by `false`, and
+//! Damage to a unit before it is written down. A kind of damage that does not fit a case says so by `false`, and
 //! another one is tried.
 
-use crate::frames::{Field, Frame, Place};
 use crate::model::*;
 use crate::rng::Rng;
 use oracle::alphabet::Alphabet;
-use oracle::kind;
-use oracle::limits::*;
-use oracle::{Class, UnitNumbers};
+use oracle::limits::{EDITS_MAX, READ_LENGTH_MAX, RECORDS_MAX, SUBSEQUENCES, SYMBOLS_MAX};
+use oracle::UnitNumbers;
 
 /// How often another kind of damage is tried where one does not fit.
 const TRIES: usize = 12;
@@ -15,7 +13,8 @@ const TRIES: usize = 12;
 type OnRecord = fn(&mut Rng, &mut UnitModel, usize) -> bool;
 type OnUnit = fn(&mut Rng, &mut UnitModel) -> bool;
 
-const ON_RECORD: [OnRecord; 28] = [
+/// Those named twice or more are wanted more often.
+const ON_RECORD: [OnRecord; 29] = [
     no_length,
     no_unaligned_length,
     clips_reach_the_length,
@@ -27,6 +26,7 @@ const ON_RECORD: [OnRecord; 28] = [
     pos_at_an_edge,
     pos_at_an_edge,
     last_base_outside,
+    nothing_taken_at_the_edge,
     mate_outside,
     mate_outside,
     bad_base,
@@ -209,6 +209,20 @@ fn last_base_outside(rng: &mut Rng, model: &mut UnitModel, record: usize) -> boo
     true
 }
 
+/// A first segment of insertions only, at the last position of the unit or just behind it.
+fn nothing_taken_at_the_edge(rng: &mut Rng, model: &mut UnitModel, record: usize) -> bool {
+    if !model.class().has_clips() {
+        return false;
+    }
+    let pos = model.unit.au_end.wrapping_add(rng.below(2) as u32);
+    let [BlockModel::Aligned(block), ..] = &mut model.records[record].blocks[..] else { return false };
+    let mapped = block.length.saturating_sub(block.clips[0]).saturating_sub(block.clips[2]);
+    block.edit_count = mapped.min(EDITS_MAX);
+    block.edits = (0..block.edit_count).map(|offset| EditModel { offset, kind: INSERTION, symbol: 0 }).collect();
+    model.records[record].pos = pos;
+    true
+}
+
 /// Where the record's symbol of this subsequence stands, if it has one.
 pub fn own_symbol(model: &mut UnitModel, record: usize, subsequence: usize) -> Option<&mut u32> {
     let index = usize::from(model.records[record].before[subsequence]);
@@ -222,13 +236,24 @@ pub fn own_symbol(model: &mut UnitModel, record: usize, subsequence: usize) -> O
 }
 
 fn mate_outside(rng: &mut Rng, model: &mut UnitModel, record: usize) -> bool {
-    let [_, BlockModel::Aligned(mate)] = &model.records[record].blocks[..] else { return false };
+    let [BlockModel::Aligned(first), BlockModel::Aligned(mate)] = &model.records[record].blocks[..] else {
+        return false;
+    };
+    let (first, mate) = (safely_taken(first).max(1), safely_taken(mate).max(1));
+    if own_symbol(model, record, 1).is_none() {
+        return false;
+    }
+    if rng.percent(30) {
+        // Over all positions, the first segment at the very end: wrapped, the mate would lie in the unit again.
+        (model.unit.au_start, model.unit.au_end) = (0, u32::MAX);
+        model.records[record].pos = (u64::from(u32::MAX) + 1 - first) as u32;
+    }
     let room = (u64::from(model.unit.au_end) + 1).saturating_sub(u64::from(model.records[record].pos));
-    let last = room.saturating_sub(safely_taken(mate).max(1));
-    let delta = (last + rng.below(3)).min(u64::from(u16::MAX));
+    let delta = room.saturating_sub(mate).saturating_add(rng.below(3)).min(u64::from(u16::MAX));
     let wanted = *rng.pick(&[2 * delta as u32, 2 * delta as u32 + 1, u32::from(u16::MAX), u32::from(u16::MAX) - 1]);
-    let Some(value) = own_symbol(model, record, 1) else { return false };
-    *value = wanted;
+    if let Some(value) = own_symbol(model, record, 1) {
+        *value = wanted;
+    }
     true
 }
 
@@ -254,13 +279,20 @@ fn bad_base(rng: &mut Rng, model: &mut UnitModel, record: usize) -> bool {
     true
 }
 
-fn some_edit<'a>(rng: &mut Rng, model: &'a mut UnitModel, record: usize, wanted: fn(u8) -> bool) -> Option<&'a mut EditModel> {
+fn some_edit<'a>(
+    rng: &mut Rng,
+    model: &'a mut UnitModel,
+    record: usize,
+    wanted: fn(u8) -> bool,
+) -> Option<&'a mut EditModel> {
     let block = some_aligned(rng, model, record)?;
     let mut edits: Vec<_> = block.edits.iter_mut().filter(|edit| wanted(edit.kind)).collect();
     if edits.is_empty() {
         return None;
     }
-    Some(edits.swap_remove(rng.index(edits.len())))
+    // The last one more often, as frames are often cut near their end.
+    let at = if rng.percent(40) { edits.len() - 1 } else { rng.index(edits.len()) };
+    Some(edits.swap_remove(at))
 }
 
 fn bad_edit_symbol(rng: &mut Rng, model: &mut UnitModel, record: usize) -> bool {
@@ -399,203 +431,4 @@ fn too_many_symbols(rng: &mut Rng, model: &mut UnitModel) -> bool {
     let count = usize::from(SYMBOLS_MAX) + rng.index(2);
     model.symbols[rng.index(SUBSEQUENCES)].resize(count, 5);
     true
-}
-
-// Frames.
-
-/// Damages one frame: a field at or past its limits, a cut, bytes too many or too few.
-pub fn damage_frame(rng: &mut Rng, unit: &UnitNumbers, frame: &mut Frame) {
-    match rng.below(10) {
-        0 | 4 if !frame.bytes.is_empty() => cut_frame(rng, frame),
-        1 => lengthen_frame(rng, frame),
-        2 if !frame.bytes.is_empty() => {
-            frame.bytes.remove(rng.index(frame.bytes.len()));
-            frame.places.clear();
-        }
-        3 => {
-            let at = rng.index(frame.bytes.len() + 1);
-            frame.bytes.insert(at, *rng.pick(&[0, 1, 2, u8::MAX]));
-            frame.places.clear();
-        }
-        _ => change_field(rng, unit, frame),
-    }
-}
-
-/// Anywhere, or about a field: before, inside or behind it.
-fn cut_frame(rng: &mut Rng, frame: &mut Frame) {
-    let mut at = rng.index(frame.bytes.len());
-    if rng.percent(70) {
-        if let Some(place) = some_place(rng, frame) {
-            at = place.at + rng.index(place.width + 1);
-        }
-    }
-    frame.bytes.truncate(at);
-    frame.places.retain(|place| place.at + place.width <= at);
-}
-
-fn lengthen_frame(rng: &mut Rng, frame: &mut Frame) {
-    for _ in 0..rng.between(1, 4) {
-        frame.bytes.push(rng.below(3) as u8);
-    }
-}
-
-fn change_field(rng: &mut Rng, unit: &UnitNumbers, frame: &mut Frame) {
-    let Some(place) = some_place(rng, frame) else { return };
-    let old = frame.get(place);
-    let value = *rng.pick(&edges(place.field, unit, old));
-    frame.set(place, value);
-}
-
-/// The kind of field is chosen first, so that a count is hit as often as one of a thousand bases.
-fn some_place(rng: &mut Rng, frame: &Frame) -> Option<Place> {
-    let mut fields: Vec<Field> = Vec::new();
-    for place in &frame.places {
-        if !fields.contains(&place.field) {
-            fields.push(place.field);
-        }
-    }
-    if fields.is_empty() {
-        return None;
-    }
-    let field = *rng.pick(&fields);
-    let places: Vec<Place> = frame.places.iter().copied().filter(|place| place.field == field).collect();
-    Some(*rng.pick(&places))
-}
-
-/// Values at and past the limits of a field, and those beside the old one.
-fn edges(field: Field, unit: &UnitNumbers, old: u64) -> Vec<u64> {
-    let (start, end) = (u64::from(unit.au_start), u64::from(unit.au_end));
-    let (length, edits) = (u64::from(READ_LENGTH_MAX), u64::from(EDITS_MAX));
-    let byte = u64::from(u8::MAX);
-    let two = u64::from(u16::MAX);
-    let four = u64::from(u32::MAX);
-    let mut values = match field {
-        Field::Kind => vec![0, 1, 2, 3, 4, 5, 6, 7, 8, byte],
-        Field::Class => vec![0, 1, 2, 3, 4, 5, 6, 7, byte],
-        Field::Alphabet => vec![0, 1, 2, byte],
-        Field::TemplateSegments => vec![0, 1, 2, 3, byte],
-        Field::SequenceId | Field::HardClip => vec![0, 1, two],
-        Field::First => vec![0, start, end, four],
-        Field::AuStart | Field::AuEnd | Field::Pos => vec![0, start.wrapping_sub(1), start, end, end + 1, four],
-        Field::RecordCount => vec![0, u64::from(RECORDS_MAX), u64::from(RECORDS_MAX) + 1, two],
-        Field::Subsequence => vec![0, 7, 8, byte],
-        Field::SymbolCount => vec![0, u64::from(SYMBOLS_MAX), u64::from(SYMBOLS_MAX) + 1, two],
-        Field::PairSymbol => vec![0, 1, 2, 3, 4, 5, 6, 7, two, two + 1, 2 * (two + 1), four],
-        Field::ReadLength => vec![0, 1, length, length + 1, two],
-        Field::Rcomp => vec![0, 1, 2, byte],
-        Field::SoftClip => vec![0, 1, length - 1, length, two],
-        Field::EditCount => vec![0, 1, edits, edits + 1, two],
-        Field::Offset => vec![0, 1, length - 1, length, length + 1, two],
-        Field::EditType => vec![0, 1, 2, 3, byte],
-        Field::SoftBase | Field::EditSymbol | Field::Base | Field::ReferenceBase => vec![0, 3, 4, 5, 14, 15, 16, byte],
-    };
-    values.extend([old.wrapping_sub(1), old.wrapping_add(1)]);
-    values
-}
-
-/// Damages the reference's frames: line and total counts at and past their limits, a wrong kind, a lone kind.
-pub fn damage_reference(rng: &mut Rng, unit: &UnitNumbers, frames: &mut Vec<Frame>) {
-    let long = |count: usize| Frame { bytes: [vec![kind::REFERENCE], vec![0; count]].concat(), places: Vec::new() };
-    match rng.below(8) {
-        0 => frames.push(long(REFERENCE_LINE_MAX)),
-        1 => frames.push(long(REFERENCE_LINE_MAX + 1)),
-        2 => frames.insert(rng.index(frames.len() + 1), long(0)),
-        3 => {
-            let mut missing = REFERENCE_MAX + rng.index(2) - frames.iter().map(|frame| frame.bytes.len() - 1).sum::<usize>().min(REFERENCE_MAX);
-            while missing > 0 {
-                let count = missing.min(REFERENCE_LINE_MAX);
-                frames.push(long(count));
-                missing -= count;
-            }
-        }
-        _ if frames.is_empty() => frames.push(long(0)),
-        _ => {
-            let at = rng.index(frames.len());
-            damage_frame(rng, unit, &mut frames[at]);
-        }
-    }
-}
-
-// Lines and files.
-
-/// Damages one line of text, its 0A included.
-pub fn damage_line(rng: &mut Rng, line: &mut Vec<u8>) {
-    let digits = line.len().saturating_sub(1);
-    match rng.below(12) {
-        0 if digits > 0 => capital(rng, line, digits),
-        1 if digits > 0 => line[rng.index(digits)] = *rng.pick(b"gz/:`@ \t-\r\x7f\xff"),
-        2 if digits > 0 => line[rng.index(digits)] = 0,
-        3 if digits > 0 => line[rng.index(digits)] = b'\n',
-        4 if digits > 0 => drop(line.remove(rng.index(digits))),
-        5 => line.insert(rng.index(digits + 1), *rng.pick(b"0f")),
-        6 => line.insert(digits, b'\r'),
-        7 => lengthen_line(rng, line),
-        8 => *line = b"\n".to_vec(),
-        9 if !line.is_empty() => drop(line.pop()),
-        _ if digits > 0 => line[rng.index(digits)] = *rng.pick(b"0123456789abcdef"),
-        _ => line.insert(0, b'0'),
-    }
-}
-
-/// A capital where there is a letter, else one in place of any digit.
-fn capital(rng: &mut Rng, line: &mut [u8], digits: usize) {
-    let letters: Vec<usize> = (0..digits).filter(|at| line[*at].is_ascii_lowercase()).collect();
-    if letters.is_empty() {
-        line[rng.index(digits)] = *rng.pick(b"ABCDEF");
-    } else {
-        line[*rng.pick(&letters)].make_ascii_uppercase();
-    }
-}
-
-/// To the longest line there may be, or past it.
-fn lengthen_line(rng: &mut Rng, line: &mut Vec<u8>) {
-    let ended = line.pop().is_some();
-    let digits = *rng.pick(&[LINE_DIGITS_MAX, LINE_DIGITS_MAX + 1, LINE_DIGITS_MAX + 2, LINE_DIGITS_MAX + 2, 3 * LINE_DIGITS_MAX]);
-    line.resize(digits.max(line.len()), b'0');
-    if ended {
-        line.push(b'\n');
-    }
-}
-
-/// Drops, doubles or swaps lines.
-pub fn damage_lines(rng: &mut Rng, lines: &mut Vec<Vec<u8>>) {
-    if lines.is_empty() {
-        lines.push(b"\n".to_vec());
-        return;
-    }
-    let (at, other) = (rng.index(lines.len()), rng.index(lines.len()));
-    match rng.below(4) {
-        0 => drop(lines.remove(at)),
-        1 => lines.insert(at, lines[at].clone()),
-        2 => lines.insert(at, lines[other].clone()),
-        _ => lines.swap(at, other),
-    }
-}
-
-/// Cuts a file anywhere, takes its last 0A, or adds bytes behind it.
-pub fn damage_file(rng: &mut Rng, file: &mut Vec<u8>) {
-    match rng.below(4) {
-        0 => drop(file.pop()),
-        1 => {
-            let more: [&[u8]; 7] = [b"\n", b"0", b"\0", b"03\n", b" ", b"0700\n", b"0300000000\n"];
-            file.extend_from_slice(more[rng.index(more.len())]);
-        }
-        _ => file.truncate(rng.index(file.len() + 1)),
-    }
-}
-
-// Numbers of a call.
-
-/// One unit value at or past its range.
-pub fn damage_unit(rng: &mut Rng, unit: &mut UnitNumbers) {
-    match rng.below(8) {
-        0 => unit.class = *rng.pick(&[0, 7, u8::MAX]),
-        1 => unit.alphabet = *rng.pick(&[2, u8::MAX]),
-        2 => unit.template_segments = *rng.pick(&[0, 3, u8::MAX]),
-        3 => unit.record_count = *rng.pick(&[0, 1, RECORDS_MAX, RECORDS_MAX + 1, u16::MAX]),
-        4 => (unit.au_start, unit.au_end) = (unit.au_end, unit.au_start),
-        5 => unit.template_segments ^= 3,
-        6 => unit.alphabet ^= 1,
-        _ => unit.class = 1 + rng.below(Class::ALL.len() as u64) as u8,
-    }
 }

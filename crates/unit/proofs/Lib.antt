@@ -1,0 +1,9 @@
+pub mod AlphabetLaws
+pub mod FrameLaws
+pub mod StepLaws
+pub mod StoreLaws
+pub mod UnitLaws
+pub mod PairLaws
+pub mod ReferenceLaws
+pub mod Unique
+pub mod Examples
