@@ -92,9 +92,9 @@ room-first l at xs ys h = omega (arith, length-append xs ys)
 pub room-next : {a b : List ℕ} {at p : ℕ} {xs : List ℕ} (ys : List ℕ) → Laid a b at p xs → at + 2 * length (xs ++ ys) ≤ length a → p + 2 * length ys ≤ length b
 room-next {xs = xs} ys f h = omega (arith, f .to, length-laid f, length-append xs ys)
 
--- room for a number's bytes and what follows is room for the number
-pub room-be : (k n : ℕ) (l : List ℕ) (at : ℕ) (ys : List ℕ) → at + 2 * length (be k n ++ ys) ≤ length l → at + 2 * k ≤ length l
-room-be k n l at ys h = omega (arith, length-append (be k n) ys, length-be k n)
+-- behind a number of k bytes
+pub laid-be : {a b : List ℕ} {at p : ℕ} (k n : ℕ) → Laid a b at p (be k n) → (p ≡ at + 2 * k) × (length b ≡ length a)
+laid-be k n f = (omega (arith, f .to, length-be k n), length-laid f)
 
 -- the rest of the line lent on from place a, written from its front: the whole line, written from a
 pub laid-rest : (a : ℕ) (s : List ℕ) (bs : List ℕ) {e : List ℕ} {r : ℕ} → a ≤ length s → Laid (midOf a (length s - a) s) e 0 r bs → Laid s (putMid a (length s - a) s e) a (a + r) bs

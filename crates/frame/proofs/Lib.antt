@@ -5,4 +5,3 @@ pub mod LineLaws
 pub mod NextLaws
 pub mod WholeLaws
 pub mod DecimalLaws
-pub mod Steps

@@ -1,1 +1,2 @@
-pub mod ProbeLaws
+pub mod TextLaws
+pub mod PairLaws

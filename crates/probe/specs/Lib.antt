@@ -1,1 +1,3 @@
-pub mod Probe
+pub mod Text
+pub mod Pair
+pub mod SegmentCall

@@ -1,0 +1,5 @@
+pub mod ReferenceLaws
+pub mod BasesLaws
+pub mod AlignmentLaws
+pub mod ReadLaws
+pub mod Examples

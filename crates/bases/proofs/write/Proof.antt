@@ -1,0 +1,57 @@
+-- `bases::write` meets its contract: left soft clip, mapped bases, right soft clip, `text-pieces`. Assumes nothing.
+use native.Mathlib.Omega.{arith}
+use Rattle.frame.proofs.LayLaws.{laid-as, laid-then}
+use Rattle.bases.proofs.ReferenceLaws.{least-below}
+use Rattle.bases.proofs.BasesLaws.{text-pieces, room-left, room-mapped, room-right}
+use borrow.Author.Needs.{needs}
+use Rattle.bases.proofs.write.Statement.{statement}
+use Rattle.bases.proofs.write.Tie as tie
+
+mapped-length-requires : tie.Need-mapped-length-requires
+mapped-length-requires c κs = search needs
+
+inside-requires : tie.Need-inside-requires
+inside-requires c κs = search needs
+
+cast-right : tie.Need-cast-right
+cast-right c = search needs
+
+add-right : tie.Need-add-right
+add-right c = omega (arith, least-below _ _ (c .before .inside .ensures), c .before .before .before .before .before .before .before .good .1 .1 .1 .1 .1 .1 .0)
+
+cast-end : tie.Need-cast-end
+cast-end c = search needs
+
+add-end : tie.Need-add-end
+add-end c = omega (arith, least-below _ _ (c .before .before .inside .ensures), c .before .before .before .before .before .before .before .before .good .1 .1 .1 .1 .1 .1 .0)
+
+put-clipped-requires : tie.Need-put-clipped-requires
+put-clipped-requires c κs = (omega arith, room-left _ _ _ _ _ _ (c .before .before .before .before .before .before .before .before .before .args .segment) (c .before .before .before .inside .ensures) (c .before .before .before .before .mapped-length .ensures) (c .before .before .before .before .before .before .before .before .before .args .out .now) _ (c .before .before .before .before .before .before .before .before .before .pre))
+
+put-mapped-requires : tie.Need-put-mapped-requires
+put-mapped-requires c κs = room-mapped _ _ _ _ _ _ (c .before .before .before .before .before .before .before .before .before .before .before .before .before .args .segment) (c .before .before .before .before .before .before .before .inside .ensures) (c .before .before .before .before .before .before .before .before .mapped-length .ensures) _ _ (c .before .before .before .before .before .before .before .before .before .before .before .before .before .pre) (c .before .before .before .put-clipped .ensures)
+
+put-clipped-requires-2 : tie.Need-put-clipped-requires-2
+put-clipped-requires-2 c κs = (omega arith, room-right _ _ _ _ _ _ (c .before .before .before .before .before .before .before .before .before .before .before .before .before .before .before .before .before .args .segment) (c .before .before .before .before .before .before .before .before .before .before .before .inside .ensures) (c .before .before .before .before .before .before .before .before .before .before .before .before .mapped-length .ensures) _ _ (c .before .before .before .before .before .before .before .before .before .before .before .before .before .before .before .before .before .pre) (c .before .before .before .before .before .before .before .put-clipped .ensures) (c .before .before .before .put-mapped .ensures))
+
+same-length : tie.Need-same-length
+same-length c = search needs
+
+returns : tie.Need-returns
+returns c = laid-as (text-pieces _ _ _ _ _ _ (c .before .before .before .before .before .before .before .before .before .before .before .before .before .before .before .before .before .before .before .before .args .segment) (c .before .before .before .before .before .before .before .before .before .before .before .before .before .before .inside .ensures) (c .before .before .before .before .before .before .before .before .before .before .before .before .before .before .before .mapped-length .ensures)) (laid-then (laid-then (c .before .before .before .before .before .before .before .before .before .before .put-clipped .ensures) (c .before .before .before .before .before .before .put-mapped .ensures)) (c .before .before .put-clipped2 .ensures))
+
+pub write-spec : {M : Type 1} → statement M
+write-spec =
+    tie.close
+    (tie.spec
+    mapped-length-requires
+    inside-requires
+    cast-right
+    add-right
+    cast-end
+    add-end
+    put-clipped-requires
+    put-mapped-requires
+    put-clipped-requires-2
+    same-length
+    returns)

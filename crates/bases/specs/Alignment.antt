@@ -1,0 +1,34 @@
+-- Where each mapped base of a read comes from (10.6.1): from a position of the reference under a match, or from an edit.
+-- Assumes nothing.
+use Prim.Native.Nat.{ℕ, _+_, _-_, _<_, _≤_}
+use mathlib.Core.Path.{_≡_}
+use mathlib.Core.Logic.{_⊎_}
+use mathlib.Core.List.{List, [], _∷_}
+use Rattle.unit.specs.Table35.{sizeOf}
+use Rattle.block.specs.declared.edit.Edit.{Edit}
+use Rattle.block.specs.declared.Segment.{Segment}
+use Rattle.block.specs.Edits.{deletion, editsAt, Sound}
+use Rattle.block.specs.Segment.{softBases, mappedLength}
+use Rattle.bases.specs.declared.places.Places.{Places}
+use Rattle.bases.specs.Bases.{R, r, pastEdit}
+
+-- in a match from both pointers up to a place of the read, base i stands at the position that is as far from R as i is from r
+pub record Stands (p : Places) (to i position : ℕ) : Type 0 where
+  pub from : r p ≤ i
+  pub until : i < to
+  pub at : position ≡ R p + (i - r p)
+
+-- base i stands at a reference position under a match: before one of the edits, or behind the last
+unfoldable pub UnderMatch : ℕ → Places → List Edit → ℕ → ℕ → Type 0
+UnderMatch mapped p [] i position = Stands p mapped i position
+UnderMatch mapped p (e ∷ es) i position = Stands p (e .offset) i position ⊎ UnderMatch mapped (pastEdit e p) es i position
+
+-- base i is the one that a substitution or an insertion among the edits brings
+unfoldable pub OfEdit : List Edit → ℕ → Edit → Type 0
+OfEdit [] i d = ⊥
+OfEdit (e ∷ es) i d = ((e ≡ d) × ((e .kind ≡ deletion → ⊥) × (e .offset ≡ i))) ⊎ OfEdit es i d
+
+-- a segment whose block was accepted: refusals 9, 10, 11 and 12 do not hold
+pub record Acceptable (class alphabet : ℕ) (frame : List ℕ) (s : Segment) : Type 0 where
+  pub clips : softBases (s .clips) ≤ s .length
+  pub edits : Sound (mappedLength (s .length) (s .clips)) (sizeOf alphabet) 0 (editsAt class alphabet frame (s .edits) (s .«edits_at»))

@@ -1,0 +1,129 @@
+// The lent reference under a match: clipped once to what is lent, and N before and behind it (10.2.2, Figure 5).
+use crate::places::Places;
+use frame::lay::put_byte;
+use unit::alphabet;
+ghost use mathlib.Core.Path.{_≡_};
+ghost use Prim.Native.Nat.{_+_, _-_, _*_, _≤_};
+ghost use lib.ListN.{length, replicate};
+ghost use Rattle.frame.specs.Lay.{Laid};
+ghost use Rattle.unit.specs.Table35.{letterN};
+ghost use Rattle.bases.specs.Reference.{lentBefore, matchedBases, matchRefusal, least as leastOf};
+ghost use Rattle.bases.specs.Bases.{R, r, farthest, lettersAt, symbolsRefusal};
+
+pub(crate) fn wide(b: u8) -> u32
+    ensures { λ n. ⌜ n ≡ b ⌝ }
+{
+    b as u32
+}
+
+// The smaller of two numbers.
+pub(crate) fn least(a: u64, b: u64) -> u64
+    ensures { λ n. ⌜ n ≡ leastOf a b ⌝ }
+{
+    if a < b { a } else { b }
+}
+
+// How far it is from one place to another; 0 where the other stands before it.
+pub(crate) fn between(from: u64, to: u64) -> u64
+    ensures { λ n. ⌜ n ≡ to - from ⌝ }
+{
+    if to < from { 0 } else { to - from }
+}
+
+// How many of the lent bases stand before a position: where a run that starts or ends there is clipped.
+fn lent_before(lent: usize, first: u32, position: u64) -> usize
+    ensures { λ n. ⌜ n ≡ lentBefore lent first position ⌝ }
+{
+    least(between(first as u64, position), lent as u64) as usize
+}
+
+// Refusal 10 of the lent bases from `start` to `end`.
+fn check_lent(reference: &[u8], letters: u32, start: usize, end: usize) -> u32
+    requires { ⌜ end ≤ length (now reference) ⌝ }
+    ensures { λ n. ⌜ n ≡ symbolsRefusal letters (now (reference .entry)) start (end - start) ⌝ }
+{
+    let size = alphabet::size(letters);
+    let mut i = start;
+    while i < end {
+        if size <= wide(reference[i]) {
+            return refusal::SYMBOL_OUT;
+        }
+        i += 1;
+    }
+    0
+}
+
+// Refusal 10 of a match from both pointers up to a place of the read.
+pub(crate) fn check_match(reference: &[u8], first: u32, letters: u32, p: Places, to: u32) -> u32
+    requires { ⌜ R p ≤ farthest ⌝ }
+    ensures { λ n. ⌜ n ≡ matchRefusal letters (now (reference .entry)) first (R p) (to - r p) ⌝ }
+{
+    let n = p.until(to);
+    let at = p.reference;
+    let start = lent_before(reference.len(), first, at.0);
+    let end = lent_before(reference.len(), first, at.0 + n);
+    check_lent(reference, letters, start, end)
+}
+
+// The letter N, as many times.
+fn put_padding(out: &mut [u8], at: usize, letters: u32, count: u64) -> usize
+    requires { ⌜ at + 2 * count ≤ length (now out) ⌝ }
+    ensures { λ a. ⌜ Laid (now (out .entry)) (now (out .exit)) at a (replicate count letterN) ⌝ }
+{
+    let n = alphabet::letter(letters, alphabet::index_of_n(letters));
+    let mut next = at;
+    let mut left = count;
+    while 0 < left {
+        next = put_byte(out, next, n);
+        left -= 1;
+    }
+    next
+}
+
+// The letters of the lent bases from `start` to `end`.
+fn put_lent(
+    out: &mut [u8],
+    at: usize,
+    reference: &[u8],
+    letters: u32,
+    start: usize,
+    end: usize,
+) -> usize
+    requires { ⌜ (start ≤ end) × (end ≤ length (now reference)) ⌝ }
+    requires { ⌜ at + 2 * (end - start) ≤ length (now out) ⌝ }
+    ensures { λ a. ⌜ Laid (now (out .entry)) (now (out .exit)) at a (lettersAt letters (now (reference .entry)) start (end - start)) ⌝ }
+{
+    let mut next = at;
+    let mut i = start;
+    while i < end {
+        let b = alphabet::letter(letters, wide(reference[i]));
+        next = put_byte(out, next, b);
+        i += 1;
+    }
+    next
+}
+
+// The bases of a match from both pointers up to a place of the read: padding, lent bases, padding.
+pub(crate) fn put_matched(
+    out: &mut [u8],
+    at: usize,
+    reference: &[u8],
+    first: u32,
+    letters: u32,
+    p: Places,
+    to: u32,
+) -> usize
+    requires { ⌜ R p ≤ farthest ⌝ }
+    requires { ⌜ at + 2 * (to - r p) ≤ length (now out) ⌝ }
+    ensures { λ a. ⌜ Laid (now (out .entry)) (now (out .exit)) at a (matchedBases letters (now (reference .entry)) first (R p) (to - r p)) ⌝ }
+{
+    let n = p.until(to);
+    let from = p.reference;
+    let before = least(n, between(from.0, first as u64));
+    let start = lent_before(reference.len(), first, from.0);
+    let end = lent_before(reference.len(), first, from.0 + n);
+    let behind = n - before - (end - start) as u64;
+    let lent_at = put_padding(out, at, letters, before);
+    let behind_at = put_lent(out, lent_at, reference, letters, start, end);
+    put_padding(out, behind_at, letters, behind)
+}

@@ -1,0 +1,179 @@
+// A read's bases: pointer R and pointer r of 10.6.1 over the edits of a segment, the padding of 10.2.2, and the soft-clipped bases on both sides.
+mod lent;
+mod places;
+
+use crate::lent::check_match;
+use crate::lent::least;
+use crate::lent::put_matched;
+use crate::lent::wide;
+use crate::places::Places;
+use block::Segment;
+use block::edit::Edit;
+use block::edit::edit_at;
+use block::edit::width;
+use block::mapped_length;
+use frame::field::byte_at;
+use frame::lay::put_byte;
+use unit::alphabet;
+ghost use mathlib.Core.Path.{_≡_};
+ghost use mathlib.Core.List.{_++_};
+ghost use Prim.Native.Nat.{_+_, _-_, _*_, _≤_};
+ghost use lib.ListN.{length};
+ghost use Rattle.frame.specs.Hex.{unhex};
+ghost use Rattle.frame.specs.Lay.{Laid};
+ghost use Rattle.bases.specs.Reference.{matchedBases, least as leastOf};
+ghost use Rattle.bases.specs.Bases.{R, r, farthest, editBases, lettersAt, mappedBases, referenceRefusal, basesText};
+
+// A place that is inside the frame, or its end: past it every byte reads as 0, so the end stands for every place there.
+fn inside(place: usize, bytes: usize) -> usize
+    ensures { λ a. ⌜ a ≡ leastOf place bytes ⌝ }
+{
+    least(place as u64, bytes as u64) as usize
+}
+
+// Refusal 10 where a lent reference byte outside the alphabet stands under a match, else 0.
+pub fn check_reference(
+    reference: &[u8],
+    first: u32,
+    letters: u32,
+    position: u32,
+    line: &[u8],
+    class: u32,
+    place: usize,
+    count: u32,
+    mapped: u32,
+) -> u32
+    ensures { λ n. ⌜ n ≡ referenceRefusal class letters (unhex (now (line .entry))) (now (reference .entry)) first position mapped count place ⌝ }
+{
+    let step = width(class);
+    let bytes = line.len() / 2;
+    let mut at = inside(place, bytes);
+    let mut p = Places::beginning(position);
+    let mut left = count;
+    while 0 < left {
+        let e = edit_at(line, class, letters, at);
+        let no = check_match(reference, first, letters, p, e.offset as u32);
+        if no != 0 {
+            return no;
+        }
+        p = p.past_edit(e);
+        at += step;
+        left -= 1;
+    }
+    check_match(reference, first, letters, p, mapped)
+}
+
+// The match up to an edit, and the edit's own letter.
+fn put_edit(
+    out: &mut [u8],
+    at: usize,
+    reference: &[u8],
+    first: u32,
+    letters: u32,
+    p: Places,
+    e: Edit,
+) -> usize
+    requires { ⌜ R p ≤ farthest ⌝ }
+    requires { ⌜ at + 2 * length (matchedBases letters (now reference) first (R p) (e .offset - r p) ++ editBases letters e) ≤ length (now out) ⌝ }
+    ensures { λ a. ⌜ Laid (now (out .entry)) (now (out .exit)) at a (matchedBases letters (now (reference .entry)) first (R p) (e .offset - r p) ++ editBases letters e) ⌝ }
+{
+    let next = put_matched(out, at, reference, first, letters, p, e.offset as u32);
+    if e.kind == Edit::DELETION {
+        return next;
+    }
+    put_byte(out, next, alphabet::letter(letters, wide(e.symbol)))
+}
+
+// The mapped bases: each edit with the match before it, then the match behind the last.
+fn put_mapped(
+    out: &mut [u8],
+    at: usize,
+    reference: &[u8],
+    first: u32,
+    letters: u32,
+    position: u32,
+    line: &[u8],
+    class: u32,
+    place: usize,
+    count: u32,
+    mapped: u32,
+) -> usize
+    requires { ⌜ at + 2 * length (mappedBases class letters (unhex (now line)) (now reference) first position mapped count place) ≤ length (now out) ⌝ }
+    ensures { λ a. ⌜ Laid (now (out .entry)) (now (out .exit)) at a (mappedBases class letters (unhex (now (line .entry))) (now (reference .entry)) first position mapped count place) ⌝ }
+{
+    let step = width(class);
+    let bytes = line.len() / 2;
+    let mut here = inside(place, bytes);
+    let mut p = Places::beginning(position);
+    let mut next = at;
+    let mut left = count;
+    while 0 < left {
+        let e = edit_at(line, class, letters, here);
+        next = put_edit(out, next, reference, first, letters, p, e);
+        p = p.past_edit(e);
+        here += step;
+        left -= 1;
+    }
+    put_matched(out, next, reference, first, letters, p, mapped)
+}
+
+// Soft-clipped bases: the letters of the frame's bytes from `start` to `end`.
+pub fn put_clipped(
+    out: &mut [u8],
+    at: usize,
+    line: &[u8],
+    letters: u32,
+    start: usize,
+    end: usize,
+) -> usize
+    requires { ⌜ start ≤ end ⌝ }
+    requires { ⌜ at + 2 * (end - start) ≤ length (now out) ⌝ }
+    ensures { λ a. ⌜ Laid (now (out .entry)) (now (out .exit)) at a (lettersAt letters (unhex (now (line .entry))) start (end - start)) ⌝ }
+{
+    let mut next = at;
+    let mut i = start;
+    while i < end {
+        let b = alphabet::letter(letters, wide(byte_at(line, i)));
+        next = put_byte(out, next, b);
+        i += 1;
+    }
+    next
+}
+
+// A whole read, laid as digits.
+pub fn write(
+    out: &mut [u8],
+    at: usize,
+    reference: &[u8],
+    first: u32,
+    letters: u32,
+    position: u32,
+    line: &[u8],
+    class: u32,
+    segment: Segment,
+) -> usize
+    requires { ⌜ at + 2 * length (basesText class letters (unhex (now line)) (now reference) first position segment) ≤ length (now out) ⌝ }
+    ensures { λ a. ⌜ Laid (now (out .entry)) (now (out .exit)) at a (basesText class letters (unhex (now (line .entry))) (now (reference .entry)) first position segment) ⌝ }
+{
+    let clips = segment.clips;
+    let mapped = mapped_length(segment.length, clips);
+    let bytes = line.len() / 2;
+    let left = inside(segment.soft_at, bytes);
+    let right = left + clips.left_soft as usize;
+    let end = right + clips.right_soft as usize;
+    let first_mapped = put_clipped(out, at, line, letters, left, right);
+    let behind = put_mapped(
+        out,
+        first_mapped,
+        reference,
+        first,
+        letters,
+        position,
+        line,
+        class,
+        segment.edits_at,
+        segment.edits,
+        mapped,
+    );
+    put_clipped(out, behind, line, letters, right, end)
+}

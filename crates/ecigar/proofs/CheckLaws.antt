@@ -1,0 +1,174 @@
+-- The laws of the check: each turn of its loop, the bounds that hold on the way, and what an accepted list of edits meets.
+-- Assumes nothing.
+use mathlib.Core.Path.{_≡_, sym, ap, _∙_}
+use mathlib.Core.Bool.{true, false, cond}
+use mathlib.Core.Logic.{inr}
+use mathlib.Core.List.{List, _∷_, _++_}
+use Prim.Native.Nat.{ℕ, zero, suc, _+_, _-_, _*_, _/_, _<_, _≤_}
+use native.Mathlib.Omega.{arith}
+use native.Mathlib.Nat.{suc-mul, zero-add}
+use borrow.Author.Tests.{lt-ltb, le-ltb, ltb-false, eq-eqb, ne-eqb, eqb-true, eqb-false}
+use lib.Dec.{ltb, eqb}
+use lib.ListN.{length, length-append}
+use Rattle.refusal.specs.Numbers.{fine, misframed}
+use Rattle.frame.specs.Hex.{unhex}
+use Rattle.frame.proofs.HexLaws.{by-test, length-unhex}
+use Rattle.unit.specs.Table35.{sizeOf}
+use Rattle.block.specs.Edits.{substitution, insertion, widthOf, editAt, editsAt, nextOffset, editRefusal, Sound, takenFrom}
+use Rattle.block.specs.Segment.{mostRead, mostEdits}
+use Rattle.block.specs.declared.edit.Edit.{Edit}
+use Rattle.block.proofs.EditLaws.{Accepted, edits-on, edits-none, next-least}
+use Rattle.ecigar.specs.declared.walk.Walk.{Walk}
+use Rattle.ecigar.specs.declared.check.Tally.{Tally}
+use Rattle.ecigar.specs.declared.check.Checked.{Checked}
+use Rattle.ecigar.specs.declared.check.Checked.the-variants.{Fine, Refused}
+use Rattle.ecigar.specs.Table90.{printed}
+use Rattle.ecigar.specs.Ecigar.{past, gap, mark, operationsFrom, ecigarOf}
+use Rattle.ecigar.specs.Check.{endsWithin, editsRefusal, answered, editsChecked, checkOf}
+use Rattle.ecigar.specs.Tally.{startTally, takenBy, textBy, tallied, finished}
+use Rattle.ecigar.proofs.PrintLaws.{length-printed}
+use Rattle.ecigar.proofs.WalkLaws.{Open, length-mark, text-on, text-end, past-next, past-run, past-open, edit-most}
+
+-- ---- where the frame ends
+
+pub ends-short : (l : List ℕ) (at n : ℕ) → length l / 2 < at + n → true ≡ endsWithin (unhex l) at n
+ends-short l at n h = sym (lt-ltb (length (unhex l)) (at + n) (rw length-unhex h))
+
+pub ends-long : (l : List ℕ) (at n : ℕ) → at + n ≤ length l / 2 → false ≡ endsWithin (unhex l) at n
+ends-long l at n h = sym (le-ltb (length (unhex l)) (at + n) (rw length-unhex h))
+
+pub ends-room : (l : List ℕ) (at n : ℕ) → false ≡ endsWithin (unhex l) at n → at + n ≤ length l / 2
+ends-room l at n h = rw length-unhex at (ltb-false (length (unhex l)) (at + n) (sym h))
+
+-- ---- one edit
+
+pub takenBy-most : (next : ℕ) (e : Edit) → next ≤ e .offset → takenBy next e + next ≤ e .offset + 1
+unfolding takenBy
+takenBy-most next e h = by-test (eqb (e .kind) insertion) (λ k. simp k (omega arith)) (λ k. simp k (omega arith))
+
+-- ---- a turn of the loop: what is left, from here, comes to what the whole comes to
+
+-- the check of k edits from a place on, after a tally
+unfoldable pub checkedFrom : ℕ → ℕ → List ℕ → ℕ → ℕ → ℕ → Tally → Checked
+checkedFrom class alphabet frame mapped k at t =
+    answered
+    (editsRefusal class alphabet frame mapped (t .walk .next) k at)
+    (t .taken + takenFrom mapped (t .walk .next) (editsAt class alphabet frame k at))
+    (t .text + length (printed (operationsFrom alphabet mapped (t .walk) (editsAt class alphabet frame k at))))
+
+pub check-start : (class alphabet : ℕ) (frame : List ℕ) (mapped k at : ℕ) (t : Tally) → t ≡ startTally
+    → checkedFrom class alphabet frame mapped k at t ≡ editsChecked class alphabet frame at k mapped
+unfolding checkedFrom editsChecked ecigarOf
+check-start class alphabet frame mapped k at t q = rw q (simp zero-add)
+
+refusals-on : (class alphabet : ℕ) (frame : List ℕ) (mapped next k at : ℕ) → 0 < k → editsRefusal class alphabet frame mapped next k at
+    ≡ cond (endsWithin frame at (widthOf class)) misframed
+    (cond (eqb (editRefusal mapped (sizeOf alphabet) next (editAt class alphabet frame at)) fine)
+    (editsRefusal class alphabet frame mapped (nextOffset (editAt class alphabet frame at)) (k - 1) (at + widthOf class))
+    (editRefusal mapped (sizeOf alphabet) next (editAt class alphabet frame at)))
+unfolding editsRefusal
+refusals-on class alphabet frame mapped next zero at h = absurd (omega arith)
+refusals-on class alphabet frame mapped next (suc k) at h = let p : suc k - 1 ≡ k = omega arith in rw p
+
+module _ (class alphabet : ℕ) (frame : List ℕ) (mapped k at step symbols : ℕ) (t : Tally) (wide : step ≡ widthOf class) (size : symbols ≡ sizeOf alphabet) (more : 0 < k) where
+  refusal-here : editsRefusal class alphabet frame mapped (t .walk .next) k at
+      ≡ cond (endsWithin frame at step) misframed
+      (cond (eqb (editRefusal mapped symbols (t .walk .next) (editAt class alphabet frame at)) fine)
+      (editsRefusal class alphabet frame mapped (nextOffset (editAt class alphabet frame at)) (k - 1) (at + step))
+      (editRefusal mapped symbols (t .walk .next) (editAt class alphabet frame at)))
+  refusal-here = refusals-on class alphabet frame mapped (t .walk .next) k at more ∙ rw (wide, size)
+
+  pub check-short : true ≡ endsWithin frame at step → checkedFrom class alphabet frame mapped k at t ≡ Refused misframed
+  unfolding checkedFrom answered
+  check-short h = rw (refusal-here, ← h)
+
+  module _ (e : Edit) (it : e ≡ editAt class alphabet frame at) (whole : false ≡ endsWithin frame at step) where
+    pub check-out : (n : ℕ) → n ≡ editRefusal mapped symbols (t .walk .next) e → (n ≡ 0 → ⊥) → checkedFrom class alphabet frame mapped k at t ≡ Refused n
+    unfolding checkedFrom answered
+    check-out n q z = rw (refusal-here, ← whole, ← it, ← q) (simp (ne-eqb _ _ z))
+
+    pub check-on : (r : Tally) → editRefusal mapped symbols (t .walk .next) e ≡ 0 → r ≡ tallied t e
+        → checkedFrom class alphabet frame mapped k at t ≡ checkedFrom class alphabet frame mapped (k - 1) (at + step) r
+    unfolding checkedFrom takenFrom tallied takenBy textBy past
+    check-on r z q =
+        let es = editsAt class alphabet frame (k - 1) (at + step) in
+        let list : editsAt class alphabet frame k at ≡ e ∷ es = edits-on class alphabet frame k at e it more ∙ rw wide in
+        let refused : editsRefusal class alphabet frame mapped (t .walk .next) k at ≡ editsRefusal class alphabet frame mapped (nextOffset e) (k - 1) (at + step) =
+        refusal-here ∙ rw (← whole, ← it) (simp (eq-eqb _ _ z)) in
+        let taken : t .taken + takenFrom mapped (t .walk .next) (e ∷ es) ≡ t .taken + ((e .offset - t .walk .next) + cond (eqb (e .kind) insertion) 0 1) + takenFrom mapped (nextOffset e) es = omega arith in
+        let text : t .text + length (printed (operationsFrom alphabet mapped (t .walk) (e ∷ es)))
+        ≡ t .text + (length (printed (gap (t .walk) e)) + cond (eqb (e .kind) substitution) 1 0) + length (printed (operationsFrom alphabet mapped (past (t .walk) e) es)) =
+        omega (arith, ap length (text-on alphabet mapped (t .walk) e es), length-append (printed (gap (t .walk) e ++ mark alphabet e)) (printed (operationsFrom alphabet mapped (past (t .walk) e) es)), length-printed (gap (t .walk) e) (mark alphabet e), length-mark alphabet e) in
+        rw (q, list, refused, taken, text)
+
+pub check-end : (class alphabet : ℕ) (frame : List ℕ) (mapped k at : ℕ) (t : Tally) → k ≤ 0
+    → checkedFrom class alphabet frame mapped k at t ≡ finished mapped t
+unfolding checkedFrom answered editsRefusal takenFrom finished
+check-end class alphabet frame mapped k at t h =
+    let z : k ≡ 0 = omega arith in rw (edits-none class alphabet frame k at h, z, text-end alphabet mapped (t .walk))
+
+-- ---- the bounds on the way
+
+-- where a tally stands when k of n edits are left
+pub record Within (mapped n k : ℕ) (t : Tally) : Type 0 where
+  pub next : t .walk .next ≤ mapped
+  pub run : t .walk .run + k ≤ n
+  pub begun : Open (t .walk)
+  pub taken : t .taken + k ≤ t .walk .next + n
+  pub text : t .text + 2 * t .walk .run + 2 * k ≤ 2 * t .walk .next + 2 * n
+
+pub within-on : (mapped symbols n k : ℕ) (t r : Tally) (e : Edit) → Within mapped n k t → 0 < k → Accepted mapped symbols (t .walk .next) e → r ≡ tallied t e
+    → Within mapped n (k - 1) r
+unfolding tallied textBy
+within-on mapped symbols n k t r e w h a q =
+    let walk : r .walk ≡ past (t .walk) e = ap (λ (x : Tally). x .walk) q in
+    let there = past-next (t .walk) e walk in
+    let least = next-least e in
+    record {
+      next = omega (arith, a .inside);
+      run = omega (arith, w .run, past-run (t .walk) e walk);
+      begun = inr (past-open (t .walk) e walk);
+      taken = omega (arith, w .taken, a .order, takenBy-most (t .walk .next) e (a .order), ap (λ (x : Tally). x .taken) q);
+      text = omega (arith, w .text, a .order, edit-most (t .walk) e (w .begun) (a .order), ap (λ (x : Walk). x .run) walk, ap (λ (x : Tally). x .text) q);
+    }
+
+-- ---- what an accepted list of edits meets
+
+-- nothing is refused: each edit is accepted where it stands, and the frame has them all
+pub refusal-fine : (class alphabet : ℕ) (frame : List ℕ) (mapped next k at : ℕ) → editsRefusal class alphabet frame mapped next k at ≡ fine
+    → Sound mapped (sizeOf alphabet) next (editsAt class alphabet frame k at) × (at ≤ length frame → at + k * widthOf class ≤ length frame)
+unfolding editsRefusal Sound editsAt
+refusal-fine class alphabet frame mapped next zero at q = (tt, λ h. omega arith)
+refusal-fine class alphabet frame mapped next (suc k) at q =
+    by-test (endsWithin frame at (widthOf class)) (λ a. let z = simp a at q in absurd (omega arith))
+    (λ a. by-test (eqb (editRefusal mapped (sizeOf alphabet) next (editAt class alphabet frame at)) fine)
+    (λ b.
+    let r = refusal-fine class alphabet frame mapped (nextOffset (editAt class alphabet frame at)) k (at + widthOf class) (simp (a, b) at q) in
+    let l : at + widthOf class ≤ length frame = ltb-false (length frame) (at + widthOf class) a in
+    ((eqb-true _ _ b, r .0), λ h. omega (arith, suc-mul k (widthOf class), r .1 l)))
+    (λ b. let z = simp (a, b) at q in absurd (eqb-false _ _ b z)))
+
+-- what `Fine taken text` says
+pub record IsFine (class alphabet : ℕ) (frame : List ℕ) (at count mapped positions characters : ℕ) : Type 0 where
+  pub few : count ≤ mostEdits
+  pub short : mapped ≤ mostRead
+  pub framed : at ≤ length frame → at + count * widthOf class ≤ length frame
+  pub sound : Sound mapped (sizeOf alphabet) 0 (editsAt class alphabet frame count at)
+  pub taken : positions ≡ takenFrom mapped 0 (editsAt class alphabet frame count at)
+  pub text : characters ≡ length (ecigarOf alphabet mapped (editsAt class alphabet frame count at))
+
+pub checked-fine : (class alphabet : ℕ) (frame : List ℕ) (at count mapped taken text : ℕ) → checkOf class alphabet frame at count mapped ≡ Fine taken text
+    → IsFine class alphabet frame at count mapped taken text
+unfolding checkOf editsChecked answered
+checked-fine class alphabet frame at count mapped taken text q =
+    by-test (ltb mostEdits count) (λ a. never (simp a at q))
+    (λ a. by-test (ltb mostRead mapped) (λ b. never (simp (a, b) at q))
+    (λ b. by-test (eqb (editsRefusal class alphabet frame mapped 0 count at) fine)
+    (λ d.
+    let p = simp (a, b, d) at q in
+    let s = refusal-fine class alphabet frame mapped 0 count at (eqb-true _ _ d) in
+    record { few = ltb-false _ _ a; short = ltb-false _ _ b; framed = s .1; sound = s .0; taken = cc; text = cc })
+    (λ d. never (simp (a, b, d) at q))))
+  where
+    never : {P : Type 0} {n : ℕ} → Refused n ≡ Fine taken text → P
+    never e = absurd (let z : _≡_ {A = ℕ} 0 1 = cc in omega arith)

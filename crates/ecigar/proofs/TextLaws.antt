@@ -1,0 +1,98 @@
+-- The laws of writing a segment's text: each turn of the loop.
+-- Assumes nothing.
+use mathlib.Core.Path.{_≡_, _∙_}
+use mathlib.Core.List.{List, _∷_, _++_}
+use Prim.Native.Nat.{ℕ, zero, suc, _+_, _-_, _*_, _<_, _≤_}
+use native.Mathlib.Omega.{arith}
+use native.Mathlib.Nat.{suc-mul}
+use lib.ListN.{length, length-append}
+use Rattle.frame.proofs.LayLaws.{Rest, rest-room}
+use Rattle.unit.specs.Table35.{sizeOf}
+use Rattle.block.specs.Edits.{widthOf, editAt, editsAt, nextOffset, Sound}
+use Rattle.block.specs.Segment.{mostEdits, mappedLength}
+use Rattle.block.specs.declared.edit.Edit.{Edit}
+use Rattle.block.specs.declared.Segment.{Segment}
+use Rattle.block.proofs.EditLaws.{Accepted, accepted, edits-on, edits-none, sound-head, sound-tail}
+use Rattle.ecigar.specs.declared.walk.Walk.{Walk}
+use Rattle.ecigar.specs.Table90.{printed}
+use Rattle.ecigar.specs.Ecigar.{past, gap, mark, ending, operationsFrom, operationsOf, ecigarOf, clipsLength, leftClip, rightClip, segmentEdits, segmentOperations, ecigarText}
+use Rattle.ecigar.specs.Check.{checkOf}
+use Rattle.ecigar.specs.declared.check.Checked.the-variants.{Fine}
+use Rattle.ecigar.proofs.PrintLaws.{printed-append}
+use Rattle.ecigar.proofs.CheckLaws.{checked-fine}
+use Rattle.ecigar.proofs.WalkLaws.{text-on, text-end}
+
+-- so many times, and one time more
+times-less : (k n : ℕ) → 0 < k → k * n ≡ n + (k - 1) * n
+times-less zero n h = absurd (omega arith)
+times-less (suc k) n h = let p : suc k - 1 ≡ k = omega arith in rw p (omega (arith, suc-mul k n))
+
+-- the frame has the next edit, and the others behind it
+pub framed-on : (frame : List ℕ) (class at k step : ℕ) → at + k * widthOf class ≤ length frame → step ≡ widthOf class → 0 < k
+    → (at + step ≤ length frame) × (at + step + (k - 1) * widthOf class ≤ length frame)
+framed-on frame class at k step h q more = let e = times-less k (widthOf class) more in (omega arith, omega arith)
+
+-- ---- a turn of the loop
+
+module _ (class alphabet : ℕ) (frame : List ℕ) (mapped k at step : ℕ) (e : Edit) (wide : step ≡ widthOf class) (it : e ≡ editAt class alphabet frame at) (more : 0 < k) where
+  list-on : editsAt class alphabet frame k at ≡ e ∷ editsAt class alphabet frame (k - 1) (at + step)
+  list-on = edits-on class alphabet frame k at e it more ∙ rw wide
+
+  pub accepted-on : (next : ℕ) → Sound mapped (sizeOf alphabet) next (editsAt class alphabet frame k at) → Accepted mapped (sizeOf alphabet) next e
+  accepted-on next s = accepted mapped (sizeOf alphabet) next e (sound-head mapped (sizeOf alphabet) next e (editsAt class alphabet frame (k - 1) (at + step)) (rw list-on at s))
+
+  pub sound-on : (next : ℕ) → Sound mapped (sizeOf alphabet) next (editsAt class alphabet frame k at)
+      → Sound mapped (sizeOf alphabet) (nextOffset e) (editsAt class alphabet frame (k - 1) (at + step))
+  sound-on next s = sound-tail mapped (sizeOf alphabet) next e (editsAt class alphabet frame (k - 1) (at + step)) (rw list-on at s)
+
+  pub ecigar-on : (w : Walk) → printed (operationsFrom alphabet mapped w (editsAt class alphabet frame k at))
+      ≡ printed (gap w e ++ mark alphabet e) ++ printed (operationsFrom alphabet mapped (past w e) (editsAt class alphabet frame (k - 1) (at + step)))
+  ecigar-on w = rw list-on (text-on alphabet mapped w e (editsAt class alphabet frame (k - 1) (at + step)))
+
+  pub room-on : {l l₀ xs₀ : List ℕ} {p p₀ : ℕ} (w : Walk) → Rest l p (printed (operationsFrom alphabet mapped w (editsAt class alphabet frame k at))) l₀ p₀ xs₀
+      → p₀ + 2 * length xs₀ ≤ length l₀ → p + 2 * length (printed (gap w e ++ mark alphabet e)) ≤ length l
+  room-on w r b =
+      rest-room (printed (gap w e ++ mark alphabet e)) (printed (operationsFrom alphabet mapped (past w e) (editsAt class alphabet frame (k - 1) (at + step)))) r (ecigar-on w) b
+
+pub ecigar-end : (class alphabet : ℕ) (frame : List ℕ) (mapped k at : ℕ) (w : Walk) → k ≤ 0
+    → printed (operationsFrom alphabet mapped w (editsAt class alphabet frame k at)) ≡ printed (ending mapped w)
+ecigar-end class alphabet frame mapped k at w h = rw (edits-none class alphabet frame k at h) (text-end alphabet mapped w)
+
+-- what holds before each turn, when k of n edits are left
+pub record Writing (class alphabet : ℕ) (frame : List ℕ) (mapped n k at : ℕ) (w : Walk) (l : List ℕ) (p : ℕ) (l₀ : List ℕ) (p₀ : ℕ) (whole : List ℕ) : Type 0 where
+  pub next : w .next ≤ mapped
+  pub run : w .run + k ≤ n
+  pub framed : at + k * widthOf class ≤ length frame
+  pub sound : Sound mapped (sizeOf alphabet) (w .next) (editsAt class alphabet frame k at)
+  pub rest : Rest l p (printed (operationsFrom alphabet mapped w (editsAt class alphabet frame k at))) l₀ p₀ whole
+
+-- ---- the whole text
+
+pub text-parts : (class alphabet : ℕ) (frame : List ℕ) (s : Segment) → ecigarText class alphabet frame s
+    ≡ printed (leftClip (s .clips)) ++ ecigarOf alphabet (mappedLength (s .length) (s .clips)) (segmentEdits class alphabet frame s) ++ printed (rightClip (s .clips))
+unfolding ecigarText segmentOperations ecigarOf
+text-parts class alphabet frame s =
+    let es = operationsOf alphabet (mappedLength (s .length) (s .clips)) (segmentEdits class alphabet frame s) in
+    rw (printed-append (leftClip (s .clips) ++ es) (rightClip (s .clips)), printed-append (leftClip (s .clips)) es)
+
+pub length-text : (class alphabet : ℕ) (frame : List ℕ) (s : Segment) → length (ecigarText class alphabet frame s)
+    ≡ length (printed (leftClip (s .clips))) + length (ecigarOf alphabet (mappedLength (s .length) (s .clips)) (segmentEdits class alphabet frame s)) + length (printed (rightClip (s .clips)))
+length-text class alphabet frame s = rw (text-parts class alphabet frame s, length-append, length-append)
+
+-- ---- from the check to the writer
+
+module _ (class alphabet : ℕ) (frame : List ℕ) (s : Segment) (taken text : ℕ)
+    (checked : checkOf class alphabet frame (s .«edits_at») (s .edits) (mappedLength (s .length) (s .clips)) ≡ Fine taken text) where
+  -- the length that `check` and `clips_len` answer together is the text's
+  pub checked-length : length (ecigarText class alphabet frame s) ≡ text + clipsLength (s .clips)
+  unfolding clipsLength
+  checked-length = omega (arith, length-text class alphabet frame s, checked-fine class alphabet frame (s .«edits_at») (s .edits) (mappedLength (s .length) (s .clips)) taken text checked .text)
+
+  -- what `write` requires is met by what `check` accepted, where the edits' place is inside the frame and there is room for so many characters
+  pub checked-ready : (at room : ℕ) → s .«edits_at» ≤ length frame → at + 2 * (text + clipsLength (s .clips)) ≤ room
+      → ((s .edits ≤ mostEdits) × (s .«edits_at» + s .edits * widthOf class ≤ length frame))
+      × (Sound (mappedLength (s .length) (s .clips)) (sizeOf alphabet) 0 (segmentEdits class alphabet frame s)
+      × (at + 2 * length (ecigarText class alphabet frame s) ≤ room))
+  checked-ready at room inside enough =
+      let f = checked-fine class alphabet frame (s .«edits_at») (s .edits) (mappedLength (s .length) (s .clips)) taken text checked in
+      ((f .few, f .framed inside), (f .sound, rw checked-length enough))

@@ -1,0 +1,24 @@
+-- `ecigar::check::check` meets its contract: the tests on the way pick the case. Assumes nothing.
+use borrow.Author.Needs.{needs}
+use borrow.Author.Tests.{le-ltb, lt-ltb}
+use Rattle.ecigar.specs.Check.{checkOf}
+use Rattle.ecigar.proofs.check.check.Statement.{statement}
+use Rattle.ecigar.proofs.check.check.Tie as tie
+
+returns : tie.Need-returns
+unfolding checkOf
+returns c = simp (lt-ltb _ _ (c .if1 .taken))
+
+returns-2 : tie.Need-returns-2
+unfolding checkOf
+returns-2 c = simp (le-ltb _ _ (c .before .if1 .left), lt-ltb _ _ (c .if2 .taken))
+
+check-edits-requires : tie.Need-check-edits-requires
+check-edits-requires c κs = search needs
+
+returns-3 : tie.Need-returns-3
+unfolding checkOf
+returns-3 c = simp (le-ltb _ _ (c .before .before .if1 .left), le-ltb _ _ (c .before .if2 .left)) (c .check-edits .ensures)
+
+pub check-spec : {M : Type 1} → statement M
+check-spec = tie.close (tie.spec returns returns-2 check-edits-requires returns-3)

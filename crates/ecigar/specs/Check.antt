@@ -1,0 +1,47 @@
+-- The check of a segment's edits (document 01, Refusal numbers and Order): the first refusal, or what the edits come to.
+-- Assumes nothing.
+use Prim.Native.Nat.{ℕ, zero, suc, _+_}
+use mathlib.Core.Bool.{Bool, cond}
+use mathlib.Core.List.{List}
+use lib.Dec.{ltb, eqb}
+use lib.ListN.{length}
+use Rattle.refusal.specs.Numbers.{fine, misframed, lengthOut, fieldOut}
+use Rattle.unit.specs.Table35.{sizeOf}
+use Rattle.block.specs.Edits.{widthOf, editAt, editsAt, nextOffset, editRefusal, takenFrom}
+use Rattle.block.specs.Segment.{mostRead, mostEdits}
+use Rattle.ecigar.specs.Ecigar.{ecigarOf}
+use Rattle.ecigar.specs.declared.check.Checked.{Checked}
+use Rattle.ecigar.specs.declared.check.Checked.the-variants.{Fine, Refused}
+
+-- refusal 2: the frame ends before so many bytes from a place on
+abbrev pub endsWithin : List ℕ → ℕ → ℕ → Bool
+endsWithin frame at width = ltb (length frame) (at + width)
+
+-- the refusal of the first of k edits that is refused, else 0: the frame ends within it, or it is refused itself.
+-- `next` is the least offset that may stand here
+unfoldable pub editsRefusal : ℕ → ℕ → List ℕ → ℕ → ℕ → ℕ → ℕ → ℕ
+editsRefusal class alphabet frame mapped next zero at = fine
+editsRefusal class alphabet frame mapped next (suc k) at =
+    cond (endsWithin frame at (widthOf class)) misframed
+    (cond (eqb (editRefusal mapped (sizeOf alphabet) next (editAt class alphabet frame at)) fine)
+    (editsRefusal class alphabet frame mapped (nextOffset (editAt class alphabet frame at)) k (at + widthOf class))
+    (editRefusal mapped (sizeOf alphabet) next (editAt class alphabet frame at)))
+
+-- a refusal by its number; or the reference positions taken, and the length of the text without clips
+unfoldable pub answered : ℕ → ℕ → ℕ → Checked
+answered number taken text = cond (eqb number fine) (Fine taken text) (Refused number)
+
+-- so many edits from a place of the frame on
+unfoldable pub editsChecked : ℕ → ℕ → List ℕ → ℕ → ℕ → ℕ → Checked
+editsChecked class alphabet frame at count mapped =
+    answered
+    (editsRefusal class alphabet frame mapped 0 count at)
+    (takenFrom mapped 0 (editsAt class alphabet frame count at))
+    (length (ecigarOf alphabet mapped (editsAt class alphabet frame count at)))
+
+-- the whole check: the count of edits before the edits (11), and no read is longer than the longest (8)
+unfoldable pub checkOf : ℕ → ℕ → List ℕ → ℕ → ℕ → ℕ → Checked
+checkOf class alphabet frame at count mapped =
+    cond (ltb mostEdits count) (Refused fieldOut)
+    (cond (ltb mostRead mapped) (Refused lengthOut)
+    (editsChecked class alphabet frame at count mapped))

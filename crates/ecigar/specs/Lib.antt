@@ -1,0 +1,7 @@
+pub mod Table90
+pub mod Ecigar
+pub mod Table93
+pub mod Table92
+pub mod Check
+pub mod Tally
+pub mod Examples

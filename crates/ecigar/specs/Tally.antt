@@ -1,0 +1,39 @@
+-- What the check keeps from edit to edit: the walk, the reference positions taken and the length of the text so far.
+-- Assumes nothing.
+use Prim.Native.Nat.{ℕ, _+_, _-_}
+use mathlib.Core.Bool.{cond}
+use lib.Dec.{eqb}
+use lib.ListN.{length}
+use Rattle.block.specs.Edits.{substitution, insertion}
+use Rattle.block.specs.declared.edit.Edit.{Edit}
+use Rattle.ecigar.specs.declared.walk.Walk.{Walk}
+use Rattle.ecigar.specs.declared.check.Tally.{Tally}
+use Rattle.ecigar.specs.declared.check.Checked.{Checked}
+use Rattle.ecigar.specs.declared.check.Checked.the-variants.{Fine}
+use Rattle.ecigar.specs.Table90.{printed}
+use Rattle.ecigar.specs.Ecigar.{setOut, past, gap, ending}
+
+-- nothing taken and nothing written
+abbrev pub startTally : Tally
+startTally = record { walk = setOut; taken = 0; text = 0 }
+
+-- the reference positions that an edit takes with the match before it: an insertion takes none of its own (10.6.1)
+unfoldable pub takenBy : ℕ → Edit → ℕ
+takenBy next e = (e .offset - next) + cond (eqb (e .kind) insertion) 0 1
+
+-- the characters that an edit adds: what stands before it, and its letter
+unfoldable pub textBy : Walk → Edit → ℕ
+textBy w e = length (printed (gap w e)) + cond (eqb (e .kind) substitution) 1 0
+
+-- the tally after one more edit
+unfoldable pub tallied : Tally → Edit → Tally
+tallied t e =
+    record {
+      walk = past (t .walk) e;
+      taken = t .taken + takenBy (t .walk .next) e;
+      text = t .text + textBy (t .walk) e;
+    }
+
+-- the tally after the last edit
+unfoldable pub finished : ℕ → Tally → Checked
+finished mapped t = Fine (t .taken + (mapped - t .walk .next)) (t .text + length (printed (ending mapped (t .walk))))

@@ -1,0 +1,207 @@
+// The edits of a segment, checked one after the other. The check also answers what they come to, so that nothing is written before all is known.
+use crate::walk::Walk;
+use crate::walk::advance;
+use crate::walk::joins;
+use block::Segment;
+use block::edit::Edit;
+use block::edit::edit_at;
+use block::edit::refusal_of;
+use block::edit::width;
+use frame::decimal::decimal_len;
+use unit::alphabet;
+ghost use mathlib.Core.Path.{_≡_};
+ghost use Prim.Native.Nat.{_+_, _-_, _<_, _≤_};
+ghost use lib.ListN.{length};
+ghost use Rattle.frame.specs.Hex.{unhex};
+ghost use Rattle.frame.specs.Decimal.{decimal};
+ghost use Rattle.block.specs.Segment.{mostRead, mostEdits, mostEcigar};
+ghost use Rattle.ecigar.specs.Table90.{printed};
+ghost use Rattle.ecigar.specs.Ecigar.{closed, matches, gap};
+ghost use Rattle.ecigar.specs.Check.{endsWithin, editsChecked, checkOf};
+ghost use Rattle.ecigar.specs.Tally.{startTally, takenBy, textBy, tallied, finished};
+
+// What the check keeps from edit to edit: the walk, the reference positions taken, and the length of the text so far.
+pub struct Tally {
+    pub walk: Walk,
+    pub taken: u32,
+    pub text: u32,
+}
+
+// What a segment's edits come to: the reference positions taken and the length of the text without clips, or a refusal.
+pub enum Checked {
+    Fine { taken: u32, text: u32 },
+    Refused(u32),
+}
+
+impl Tally {
+    pub(crate) fn start() -> Tally
+        ensures { λ r. ⌜ r ≡ startTally ⌝ }
+    {
+        let walk = Walk::start();
+        Tally {
+            walk,
+            taken: 0,
+            text: 0,
+        }
+    }
+}
+
+// A count and its sign.
+pub(crate) fn count_len(n: u32) -> u32
+    ensures { λ r. ⌜ (r ≡ length (decimal n) + 1) × (r ≤ 11) ⌝ }
+{
+    decimal_len(n) as u32 + 1
+}
+
+fn matches_len(n: u32) -> u32
+    ensures { λ r. ⌜ (r ≡ length (printed (matches n))) × (r ≤ 11) ⌝ }
+{
+    if n == 0 {
+        return 0;
+    }
+    count_len(n)
+}
+
+fn closed_len(w: Walk) -> u32
+    ensures { λ r. ⌜ (r ≡ length (printed (closed w))) × (r ≤ 11) ⌝ }
+{
+    if w.kind == Edit::INSERTION {
+        return count_len(w.run);
+    }
+    if w.kind == Edit::DELETION {
+        return count_len(w.run);
+    }
+    0
+}
+
+fn gap_len(w: Walk, e: Edit) -> u32
+    requires { ⌜ w .next ≤ e .offset ⌝ }
+    ensures { λ r. ⌜ (r ≡ length (printed (gap w e))) × (r ≤ 22) ⌝ }
+{
+    if joins(w, e) {
+        return 0;
+    }
+    closed_len(w) + matches_len(e.offset as u32 - w.next)
+}
+
+// The characters that an edit adds.
+fn text_by(w: Walk, e: Edit) -> u32
+    requires { ⌜ w .next ≤ e .offset ⌝ }
+    ensures { λ r. ⌜ (r ≡ textBy w e) × (r ≤ 23) ⌝ }
+{
+    let before = gap_len(w, e);
+    if e.kind == Edit::SUBSTITUTION {
+        return before + 1;
+    }
+    before
+}
+
+// The reference positions that an edit takes: an insertion takes none of its own.
+fn taken_by(next: u32, e: Edit) -> u32
+    requires { ⌜ next ≤ e .offset ⌝ }
+    ensures { λ r. ⌜ (r ≡ takenBy next e) × (r ≤ e .offset + 1) ⌝ }
+{
+    let matched = e.offset as u32 - next;
+    if e.kind == Edit::INSERTION {
+        return matched;
+    }
+    matched + 1
+}
+
+// The tally after one more edit.
+fn take_edit(t: Tally, e: Edit) -> Tally
+    requires { ⌜ (t .walk .next ≤ e .offset) × ((t .walk .run < mostEdits) × ((t .taken ≤ mostRead + mostEdits) × (t .text ≤ mostEcigar))) ⌝ }
+    ensures { λ r. ⌜ r ≡ tallied t e ⌝ }
+{
+    let w = t.walk;
+    let took = taken_by(w.next, e);
+    let added = text_by(w, e);
+    let next = advance(w, e);
+    Tally {
+        walk: next,
+        taken: t.taken + took,
+        text: t.text + added,
+    }
+}
+
+// The tally after the last edit.
+fn finish(t: Tally, mapped: u32) -> Checked
+    requires { ⌜ (t .walk .next ≤ mapped) × ((mapped ≤ mostRead) × ((t .taken ≤ mostRead + mostEdits) × (t .text ≤ mostEcigar))) ⌝ }
+    ensures { λ r. ⌜ r ≡ finished mapped t ⌝ }
+{
+    let w = t.walk;
+    let rest = mapped - w.next;
+    let last = closed_len(w) + matches_len(rest);
+    Checked::Fine {
+        taken: t.taken + rest,
+        text: t.text + last,
+    }
+}
+
+// Whether the frame ends before so many bytes from a place on. Two tests, since the sum may not fit.
+fn ends_within(line: &[u8], at: usize, bytes: usize) -> bool
+    ensures { λ r. ⌜ r ≡ endsWithin (unhex (now (line .entry))) at bytes ⌝ }
+{
+    let all = line.len() / 2;
+    if all < bytes {
+        return true;
+    }
+    if all - bytes < at {
+        return true;
+    }
+    false
+}
+
+// Each edit where it stands: complete, then accepted.
+fn check_edits(
+    line: &[u8],
+    class: u32,
+    letters: u32,
+    place: usize,
+    count: u32,
+    mapped: u32,
+) -> Checked
+    requires { ⌜ (count ≤ mostEdits) × (mapped ≤ mostRead) ⌝ }
+    ensures { λ r. ⌜ r ≡ editsChecked class letters (unhex (now (line .entry))) place count mapped ⌝ }
+{
+    let step = width(class);
+    let symbols = alphabet::size(letters);
+    let mut t = Tally::start();
+    let mut at = place;
+    let mut left = count;
+    while 0 < left {
+        if ends_within(line, at, step) {
+            return Checked::Refused(refusal::MISFRAMED);
+        }
+        let e = edit_at(line, class, letters, at);
+        let w = t.walk;
+        let no = refusal_of(e, w.next, mapped, symbols);
+        if no != 0 {
+            return Checked::Refused(no);
+        }
+        t = take_edit(t, e);
+        at += step;
+        left -= 1;
+    }
+    finish(t, mapped)
+}
+
+// So many edits from a place of the frame on, of a segment with so many mapped bases.
+pub fn check(
+    line: &[u8],
+    class: u32,
+    letters: u32,
+    place: usize,
+    count: u32,
+    mapped: u32,
+) -> Checked
+    ensures { λ r. ⌜ r ≡ checkOf class letters (unhex (now (line .entry))) place count mapped ⌝ }
+{
+    if Segment::EDITS < count {
+        return Checked::Refused(refusal::FIELD_OUT);
+    }
+    if Segment::READ < mapped {
+        return Checked::Refused(refusal::LENGTH_OUT);
+    }
+    check_edits(line, class, letters, place, count, mapped)
+}

@@ -1,0 +1,159 @@
+// The text of a segment, laid as digits. What `check` accepted fits, so nothing fails here.
+use crate::clip::put_clip;
+use crate::walk::Walk;
+use crate::walk::advance;
+use crate::walk::joins;
+use block::Segment;
+use block::edit::Edit;
+use block::edit::edit_at;
+use block::edit::width;
+use block::mapped_length;
+use frame::decimal::put_decimal;
+use frame::lay::put_byte;
+use unit::alphabet;
+ghost use mathlib.Core.List.{_++_};
+ghost use Prim.Native.Nat.{_+_, _-_, _*_, _<_, _≤_};
+ghost use lib.ListN.{length};
+ghost use Rattle.frame.specs.Hex.{unhex};
+ghost use Rattle.frame.specs.Lay.{Laid};
+ghost use Rattle.unit.specs.Table35.{sizeOf};
+ghost use Rattle.block.specs.Edits.{widthOf, editsAt, Sound};
+ghost use Rattle.block.specs.Segment.{mostEdits, mappedLength};
+ghost use Rattle.ecigar.specs.Table90.{counted, printed};
+ghost use Rattle.ecigar.specs.Ecigar.{closed, matches, gap, mark, ending, ecigarOf, segmentEdits, ecigarText};
+
+// A count and its sign.
+pub(crate) fn put_count(out: &mut [u8], at: usize, n: u32, sign: u8) -> usize
+    requires { ⌜ at + 2 * length (counted n sign) ≤ length (now out) ⌝ }
+    ensures { λ r. ⌜ Laid (now (out .entry)) (now (out .exit)) at r (counted n sign) ⌝ }
+{
+    let next = put_decimal(out, at, n);
+    put_byte(out, next, sign)
+}
+
+fn put_matches(out: &mut [u8], at: usize, n: u32) -> usize
+    requires { ⌜ at + 2 * length (printed (matches n)) ≤ length (now out) ⌝ }
+    ensures { λ r. ⌜ Laid (now (out .entry)) (now (out .exit)) at r (printed (matches n)) ⌝ }
+{
+    if n == 0 {
+        return at;
+    }
+    put_count(out, at, n, b'=')
+}
+
+// The run that is open, if one is.
+fn put_closed(out: &mut [u8], at: usize, w: Walk) -> usize
+    requires { ⌜ at + 2 * length (printed (closed w)) ≤ length (now out) ⌝ }
+    ensures { λ r. ⌜ Laid (now (out .entry)) (now (out .exit)) at r (printed (closed w)) ⌝ }
+{
+    if w.kind == Edit::INSERTION {
+        return put_count(out, at, w.run, b'+');
+    }
+    if w.kind == Edit::DELETION {
+        return put_count(out, at, w.run, b'-');
+    }
+    at
+}
+
+// What stands between the last edit and this one.
+fn put_gap(out: &mut [u8], at: usize, w: Walk, e: Edit) -> usize
+    requires { ⌜ (w .next ≤ e .offset) × (at + 2 * length (printed (gap w e)) ≤ length (now out)) ⌝ }
+    ensures { λ r. ⌜ Laid (now (out .entry)) (now (out .exit)) at r (printed (gap w e)) ⌝ }
+{
+    if joins(w, e) {
+        return at;
+    }
+    let next = put_closed(out, at, w);
+    put_matches(out, next, e.offset as u32 - w.next)
+}
+
+// The letter of a substitution. The letter - of alphabet 1 is one like the others.
+fn put_mark(out: &mut [u8], at: usize, letters: u32, e: Edit) -> usize
+    requires { ⌜ at + 2 * length (printed (mark letters e)) ≤ length (now out) ⌝ }
+    ensures { λ r. ⌜ Laid (now (out .entry)) (now (out .exit)) at r (printed (mark letters e)) ⌝ }
+{
+    if e.kind == Edit::SUBSTITUTION {
+        let b = alphabet::letter(letters, e.symbol as u32);
+        return put_byte(out, at, b);
+    }
+    at
+}
+
+// What one edit adds to the text.
+fn put_edit(out: &mut [u8], at: usize, letters: u32, w: Walk, e: Edit) -> usize
+    requires { ⌜ (w .next ≤ e .offset) × (at + 2 * length (printed (gap w e ++ mark letters e)) ≤ length (now out)) ⌝ }
+    ensures { λ r. ⌜ Laid (now (out .entry)) (now (out .exit)) at r (printed (gap w e ++ mark letters e)) ⌝ }
+{
+    let next = put_gap(out, at, w, e);
+    put_mark(out, next, letters, e)
+}
+
+// What stands behind the last edit.
+fn put_ending(out: &mut [u8], at: usize, w: Walk, mapped: u32) -> usize
+    requires { ⌜ (w .next ≤ mapped) × (at + 2 * length (printed (ending mapped w)) ≤ length (now out)) ⌝ }
+    ensures { λ r. ⌜ Laid (now (out .entry)) (now (out .exit)) at r (printed (ending mapped w)) ⌝ }
+{
+    let next = put_closed(out, at, w);
+    put_matches(out, next, mapped - w.next)
+}
+
+// The text of so many edits from a place of the frame on, without clips.
+fn write_edits(
+    out: &mut [u8],
+    from: usize,
+    line: &[u8],
+    class: u32,
+    letters: u32,
+    place: usize,
+    count: u32,
+    mapped: u32,
+) -> usize
+    requires { ⌜ (count ≤ mostEdits) × (place + count * widthOf class ≤ length (unhex (now line))) ⌝ }
+    requires { ⌜ Sound mapped (sizeOf letters) 0 (editsAt class letters (unhex (now line)) count place) ⌝ }
+    requires { ⌜ from + 2 * length (ecigarOf letters mapped (editsAt class letters (unhex (now line)) count place)) ≤ length (now out) ⌝ }
+    ensures { λ r. ⌜ Laid (now (out .entry)) (now (out .exit)) from r (ecigarOf letters mapped (editsAt class letters (unhex (now (line .entry))) count place)) ⌝ }
+{
+    let step = width(class);
+    let mut w = Walk::start();
+    let mut next = from;
+    let mut at = place;
+    let mut left = count;
+    while 0 < left {
+        let e = edit_at(line, class, letters, at);
+        next = put_edit(out, next, letters, w, e);
+        w = advance(w, e);
+        at += step;
+        left -= 1;
+    }
+    put_ending(out, next, w, mapped)
+}
+
+// The whole text of a segment that `check` accepted: left clip, edits, right clip.
+pub fn write(
+    out: &mut [u8],
+    at: usize,
+    line: &[u8],
+    class: u32,
+    letters: u32,
+    segment: Segment,
+) -> usize
+    requires { ⌜ (segment .edits ≤ mostEdits) × (segment .«edits_at» + segment .edits * widthOf class ≤ length (unhex (now line))) ⌝ }
+    requires { ⌜ Sound (mappedLength (segment .length) (segment .clips)) (sizeOf letters) 0 (segmentEdits class letters (unhex (now line)) segment) ⌝ }
+    requires { ⌜ at + 2 * length (ecigarText class letters (unhex (now line)) segment) ≤ length (now out) ⌝ }
+    ensures { λ r. ⌜ Laid (now (out .entry)) (now (out .exit)) at r (ecigarText class letters (unhex (now (line .entry))) segment) ⌝ }
+{
+    let clips = segment.clips;
+    let mapped = mapped_length(segment.length, clips);
+    let left = put_clip(out, at, clips.left_soft as u32, clips.left_hard as u32);
+    let edits = write_edits(
+        out,
+        left,
+        line,
+        class,
+        letters,
+        segment.edits_at,
+        segment.edits,
+        mapped,
+    );
+    put_clip(out, edits, clips.right_soft as u32, clips.right_hard as u32)
+}

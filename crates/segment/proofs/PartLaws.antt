@@ -1,0 +1,126 @@
+-- The laws of a part that was accepted: it is ready to be written, and its bytes are as many as `partLength` says.
+-- Assumes nothing.
+use mathlib.Core.Path.{_≡_, refl, sym, ap, _∙_}
+use mathlib.Core.Bool.{cond}
+use mathlib.Core.List.{List, [], _++_}
+use Prim.Native.Nat.{ℕ, _+_, _*_, _<_, _≤_}
+use native.Mathlib.Omega.{arith}
+use borrow.Author.Tests.{eqb-true}
+use lib.Dec.{eqb}
+use lib.ListN.{length, length-append}
+use Rattle.refusal.specs.Numbers.{fine}
+use Rattle.frame.specs.Hex.{be}
+use Rattle.frame.specs.declared.field.Cursor.{Cursor}
+use Rattle.frame.proofs.HexLaws.{by-test, length-be}
+use Rattle.unit.specs.declared.Unit.{Unit}
+use Rattle.block.specs.Segment.{mostRead, mostEdits, mostEcigar, softBases, mappedLength}
+use Rattle.bases.specs.Bases.{basesText}
+use Rattle.bases.specs.Alignment.{Acceptable}
+use Rattle.bases.proofs.ReadLaws.{read-length}
+use Rattle.segment.specs.Checked.{lengthAt, afterChecked}
+use Rattle.segment.specs.Symbols.{symbolsFrom}
+use Rattle.segment.specs.Aligned.{alignedAt}
+use Rattle.segment.specs.Unaligned.{fromLength, unalignedAt}
+use Rattle.segment.specs.Place.{placeRefusal}
+use Rattle.segment.specs.Part.{underMatches, placedPart, placed, placedAt, afterBlock, plainAt, afterPlain, alignedBytes, unalignedBytes, partBytes, fixedBytes, partLength}
+use Rattle.segment.specs.Ready.{Ready, ReadyAligned, ReadyUnaligned}
+use Rattle.segment.specs.declared.checked.Checked.{Checked}
+use Rattle.segment.specs.declared.checked.Checked.the-variants as field
+use Rattle.segment.specs.declared.aligned.Aligned.{Aligned as AlignedOf}
+use Rattle.segment.specs.declared.aligned.AlignedBlock.{AlignedBlock}
+use Rattle.segment.specs.declared.aligned.AlignedBlock.the-variants as aligned
+use Rattle.segment.specs.declared.unaligned.Unaligned.{Unaligned as UnalignedOf}
+use Rattle.segment.specs.declared.unaligned.UnalignedBlock.{UnalignedBlock}
+use Rattle.segment.specs.declared.unaligned.UnalignedBlock.the-variants as unaligned
+use Rattle.segment.specs.declared.part.Part.{Part}
+use Rattle.segment.specs.declared.part.Part.the-variants.{Aligned, Unaligned, Absent}
+use Rattle.segment.specs.declared.part.PartRead.{PartRead}
+use Rattle.segment.specs.declared.part.PartRead.the-variants.{Whole, Refused}
+use Rattle.segment.proofs.PlaceLaws.{Inside, place-inside}
+use Rattle.segment.proofs.ReadyLaws.{ReadyBlock, block-ready, length-got, symbols-got}
+use Rattle.segment.proofs.WriteLaws.{length-letters}
+
+-- what is known of a part that was accepted, and of the place behind its block
+pub record Taken (u : Unit) (reference frame : List ℕ) (p : Part) (next : ℕ) : Type 0 where
+  pub ready : Ready u frame p
+  pub long : length (partBytes u reference frame p) ≡ partLength p
+  pub inside : next ≤ length frame
+
+-- ---- an aligned segment
+
+aligned-long : (u : Unit) (reference frame : List ℕ) (position : ℕ) (a : AlignedOf) → ReadyBlock (u .class) (u .alphabet) frame a
+    → length (partBytes u reference frame (placedPart position a)) ≡ partLength (placedPart position a)
+unfolding partBytes alignedBytes partLength
+aligned-long u reference frame position a r =
+    let fit : Acceptable (u .class) (u .alphabet) frame (a .segment) = record { clips = omega (arith, r .soft); edits = r .sound } in
+    simp (length-append, length-be)
+    (omega (arith, r .text, read-length (u .class) (u .alphabet) frame reference (u .first) position (a .segment) fit))
+
+aligned-taken : (u : Unit) (reference frame : List ℕ) (position : ℕ) (a : AlignedOf) (p : Part) (next : Cursor) → ReadyBlock (u .class) (u .alphabet) frame a
+    → placed u reference frame position a ≡ Whole p next → Taken u reference frame p (next .at)
+unfolding placed
+aligned-taken u reference frame position a p next r q =
+    by-test (eqb (placeRefusal (u .start) (u .end) position (a .taken)) fine)
+    (λ s. by-test (eqb (underMatches u reference frame position (a .segment)) fine)
+    (λ t.
+    let w : _≡_ {A = PartRead} (Whole (placedPart position a) (a .next)) (Whole p next) = simp (s, t) at q in
+    let e : p ≡ placedPart position a = cc in
+    let n : next .at ≡ a .next .at = ap (λ (c : Cursor). c .at) (cc) in
+    rw (e, n)
+    record {
+      ready = record { few = r .few; framed = r .framed; sound = r .sound; text = r .text };
+      long = aligned-long u reference frame position a r;
+      inside = r .inside;
+    })
+    (λ t. absurd (let w = simp (s, t) at q in let z : _≡_ {A = ℕ} 0 1 = cc in omega arith)))
+    (λ s. absurd (let w = simp s at q in let z : _≡_ {A = ℕ} 0 1 = cc in omega arith))
+
+pub placed-taken : (u : Unit) (reference frame : List ℕ) (position at : ℕ) (p : Part) (next : Cursor) → placedAt u reference frame position at ≡ Whole p next → Taken u reference frame p (next .at)
+unfolding placedAt
+placed-taken u reference frame position at p next q = by (alignedAt (u .class) (u .alphabet) frame at) refl q
+  where
+    by : (x : AlignedBlock) → alignedAt (u .class) (u .alphabet) frame at ≡ x → afterBlock u reference frame position x ≡ Whole p next → Taken u reference frame p (next .at)
+    by (aligned.Refused n) e z = absurd (let y : _≡_ {A = ℕ} 0 1 = cc in omega arith)
+    by (aligned.Whole a) e z = aligned-taken u reference frame position a p next (block-ready (u .class) (u .alphabet) frame a at e) z
+
+-- ---- an unaligned segment
+
+plain-long : (u : Unit) (reference frame : List ℕ) (s : UnalignedOf) → length (partBytes u reference frame (Unaligned s)) ≡ partLength (Unaligned s)
+unfolding partBytes unalignedBytes partLength
+plain-long u reference frame s = simp (length-append, length-be, length-letters) (omega arith)
+
+-- what follows a checked field that is accepted
+plain-whole : (x : Checked) (f : ℕ → Cursor → UnalignedBlock) (s : UnalignedOf) {P : Type 0} → afterChecked unaligned.Refused x f ≡ unaligned.Whole s
+    → ((v : ℕ) (c : Cursor) → x ≡ field.Value v c → f v c ≡ unaligned.Whole s → P) → P
+plain-whole (field.Value v c) f s q go = go v c refl q
+plain-whole (field.Refused n) f s q go = absurd (let z : _≡_ {A = ℕ} 0 1 = cc in omega arith)
+
+-- an unaligned block that is accepted: its symbols stand in the frame
+pub record PlainBlock (frame : List ℕ) (s : UnalignedOf) : Type 0 where
+  pub most : s .length ≤ mostRead
+  pub framed : s .at + s .length ≤ length frame
+  pub inside : s .next .at ≤ length frame
+
+pub plain-ready : (alphabet : ℕ) (frame : List ℕ) (at : ℕ) (s : UnalignedOf) → unalignedAt alphabet frame at ≡ unaligned.Whole s → PlainBlock frame s
+unfolding unalignedAt fromLength
+plain-ready alphabet frame at s q =
+    plain-whole (lengthAt frame at) _ s q
+    (λ v c e r.
+    let g = length-got frame at v c e in
+    plain-whole (symbolsFrom alphabet frame v v (c .at)) _ s r
+    (λ n next f z.
+    let h = symbols-got alphabet frame v v (c .at) n next f (g .inside) in
+    let m : _≡_ {A = UnalignedOf} s (record { length = v; at = c .at; next = next }) = cc in
+    rw m record { most = g .below; framed = h .1; inside = omega (arith, h .0, h .1) }))
+
+pub plain-taken : (u : Unit) (reference frame : List ℕ) (at : ℕ) (p : Part) (next : Cursor) → plainAt u frame at ≡ Whole p next → Taken u reference frame p (next .at)
+unfolding plainAt
+plain-taken u reference frame at p next q = by (unalignedAt (u .alphabet) frame at) refl q
+  where
+    by : (x : UnalignedBlock) → unalignedAt (u .alphabet) frame at ≡ x → afterPlain x ≡ Whole p next → Taken u reference frame p (next .at)
+    by (unaligned.Refused n) e z = absurd (let y : _≡_ {A = ℕ} 0 1 = cc in omega arith)
+    by (unaligned.Whole s) e z =
+        let g = plain-ready (u .alphabet) frame at s e in
+        let i : p ≡ Unaligned s = cc in
+        let n : next .at ≡ s .next .at = ap (λ (c : Cursor). c .at) (cc) in
+        rw (i, n) record { ready = record { framed = g .framed }; long = plain-long u reference frame s; inside = g .inside }

@@ -1,0 +1,198 @@
+-- What the check of a segment leaves: every part that was accepted is ready to be written.
+-- Assumes nothing.
+use mathlib.Core.Path.{_≡_, refl, sym, ap, _∙_}
+use mathlib.Core.Bool.{cond}
+use mathlib.Core.List.{List}
+use Prim.Native.Nat.{ℕ, zero, suc, _+_, _*_, _<_, _≤_}
+use native.Mathlib.Omega.{arith}
+use borrow.Author.Tests.{leb-false, ltb-true, eqb-true}
+use lib.Dec.{ltb, leb, eqb}
+use lib.ListN.{length, getD}
+use Rattle.refusal.specs.Numbers.{fine, misframed}
+use Rattle.frame.specs.Field.{fieldAt, bigAt, afterField}
+use Rattle.frame.specs.declared.field.Cursor.{Cursor}
+use Rattle.frame.proofs.HexLaws.{by-test}
+use Rattle.unit.specs.declared.Unit.{Unit}
+use Rattle.unit.specs.Unit.{classP, classI}
+use Rattle.unit.specs.Table35.{sizeOf}
+use Rattle.unit.proofs.StepLaws.{past-field, past-refusal}
+use Rattle.block.specs.declared.Clips.{Clips}
+use Rattle.block.specs.declared.Segment.{Segment}
+use Rattle.block.specs.Segment.{mostRead, mostEdits, noClips, softBases, mappedLength}
+use Rattle.block.specs.Edits.{widthOf, Sound}
+use Rattle.ecigar.specs.Check.{checkOf}
+use Rattle.ecigar.specs.Ecigar.{segmentEdits, ecigarText, clipsLength}
+use Rattle.ecigar.specs.declared.check.Checked.{Checked as EditsChecked}
+use Rattle.ecigar.specs.declared.check.Checked.the-variants as edits
+use Rattle.ecigar.proofs.CheckLaws.{checked-fine}
+use Rattle.ecigar.proofs.TextLaws.{checked-length}
+use Rattle.segment.specs.Checked.{lengthIn, lengthAt, rcompIn, rcompAt, countIn, countAt, afterChecked}
+use Rattle.segment.specs.Clips.{clipsOf, clipsIn, clipsAt}
+use Rattle.segment.specs.Symbols.{symbolsFrom}
+use Rattle.segment.specs.Aligned.{segmentOf, behind, afterEdits, tallied, fromEdits, fromSoft, afterClips, fromClips, fromRcomp, alignedAt}
+use Rattle.segment.specs.declared.checked.Checked.{Checked}
+use Rattle.segment.specs.declared.checked.Checked.the-variants as field
+use Rattle.segment.specs.declared.clips.Clipped.{Clipped}
+use Rattle.segment.specs.declared.clips.Clipped.the-variants as clips
+use Rattle.segment.specs.declared.aligned.Aligned.{Aligned}
+use Rattle.segment.specs.declared.aligned.AlignedBlock.{AlignedBlock}
+use Rattle.segment.specs.declared.aligned.AlignedBlock.the-variants.{Whole, Refused}
+
+-- ---- a checked field that is accepted: its value is within, and the frame has its bytes
+
+pub record Got (frame : List ℕ) (at k least most v next : ℕ) : Type 0 where
+  pub above : least ≤ v
+  pub below : v ≤ most
+  pub place : next ≡ at + k
+  pub inside : next ≤ length frame
+
+pub length-got : (frame : List ℕ) (at v : ℕ) (c : Cursor) → lengthAt frame at ≡ field.Value v c → Got frame at 2 1 mostRead v (c .at)
+unfolding lengthAt
+length-got frame at v c q =
+    let never : (n : ℕ) → field.Refused n ≡ field.Value v c → ⊥ = λ n e. (let z : _≡_ {A = ℕ} 0 1 = cc in omega arith) in
+    let f = past-field _ (never misframed) 2 frame at lengthIn q in
+    let a = past-refusal _ (never 8) (bigAt 2 frame at) 1 _ (f .rest) in
+    let b = past-refusal _ (never 8) mostRead (bigAt 2 frame at) _ (a .1) in
+    let e : v ≡ bigAt 2 frame at = cc (b .1) in
+    let p : c .at ≡ at + 2 = cc (b .1) in
+    record { above = omega (arith, a .0); below = omega (arith, b .0); place = p; inside = omega (arith, f .fits) }
+
+pub rcomp-got : (frame : List ℕ) (at v : ℕ) (c : Cursor) → rcompAt frame at ≡ field.Value v c → Got frame at 1 0 1 v (c .at)
+unfolding rcompAt
+rcomp-got frame at v c q =
+    let never : (n : ℕ) → field.Refused n ≡ field.Value v c → ⊥ = λ n e. (let z : _≡_ {A = ℕ} 0 1 = cc in omega arith) in
+    let f = past-field _ (never misframed) 1 frame at rcompIn q in
+    let a = past-refusal _ (never 11) 1 (bigAt 1 frame at) _ (f .rest) in
+    let e : v ≡ bigAt 1 frame at = cc (a .1) in
+    let p : c .at ≡ at + 1 = cc (a .1) in
+    record { above = omega arith; below = omega (arith, a .0); place = p; inside = omega (arith, f .fits) }
+
+pub count-got : (frame : List ℕ) (at v : ℕ) (c : Cursor) → countAt frame at ≡ field.Value v c → Got frame at 2 0 mostEdits v (c .at)
+unfolding countAt
+count-got frame at v c q =
+    let never : (n : ℕ) → field.Refused n ≡ field.Value v c → ⊥ = λ n e. (let z : _≡_ {A = ℕ} 0 1 = cc in omega arith) in
+    let f = past-field _ (never misframed) 2 frame at countIn q in
+    let a = past-refusal _ (never 11) mostEdits (bigAt 2 frame at) _ (f .rest) in
+    let e : v ≡ bigAt 2 frame at = cc (a .1) in
+    let p : c .at ≡ at + 2 = cc (a .1) in
+    record { above = omega arith; below = omega (arith, a .0); place = p; inside = omega (arith, f .fits) }
+
+-- ---- runs of symbols and clips that are accepted
+
+pub symbols-got : (alphabet : ℕ) (frame : List ℕ) (count k at v : ℕ) (c : Cursor) → symbolsFrom alphabet frame count k at ≡ field.Value v c → at ≤ length frame
+    → (c .at ≡ at + k) × (at + k ≤ length frame)
+unfolding symbolsFrom
+symbols-got alphabet frame count zero at v c q h = let p : c .at ≡ at = cc in (omega arith, omega arith)
+symbols-got alphabet frame count (suc k) at v c q h =
+    by-test (leb (length frame) at) (λ a. absurd (let e = simp a at q in let z : _≡_ {A = ℕ} 0 1 = cc in omega arith))
+    (λ a. by-test (leb (sizeOf alphabet) (getD frame at 0)) (λ b. absurd (let e = simp (a, b) at q in let z : _≡_ {A = ℕ} 0 1 = cc in omega arith))
+    (λ b. let r = symbols-got alphabet frame count k (at + 1) v c (simp (a, b) at q) (omega (arith, leb-false (length frame) at a)) in (omega (arith, r .0), omega (arith, r .1))))
+
+pub record GotClips (frame : List ℕ) (readLength at : ℕ) (c : Clips) (next : ℕ) : Type 0 where
+  pub soft : softBases c < readLength
+  pub place : next ≡ at + 8
+  pub inside : next ≤ length frame
+
+pub clips-got : (frame : List ℕ) (readLength at : ℕ) (c : Clips) (next : Cursor) → clipsAt frame readLength at ≡ clips.Whole c next → GotClips frame readLength at c (next .at)
+unfolding clipsAt clipsIn
+clips-got frame readLength at c next q =
+    let never : (n : ℕ) → clips.Refused n ≡ clips.Whole c next → ⊥ = λ n e. (let z : _≡_ {A = ℕ} 0 1 = cc in omega arith) in
+    let a = past-field _ (never misframed) 2 frame at _ q in
+    let b = past-field _ (never misframed) 2 frame (at + 2) _ (a .rest) in
+    let d = past-field _ (never misframed) 2 frame (at + 2 + 2) _ (b .rest) in
+    let f = past-field _ (never misframed) 2 frame (at + 2 + 2 + 2) _ (d .rest) in
+    let whole = clipsOf (bigAt 2 frame at) (bigAt 2 frame (at + 2)) (bigAt 2 frame (at + 2 + 2)) (bigAt 2 frame (at + 2 + 2 + 2)) in
+    by-test (leb readLength (softBases whole)) (λ t. absurd (never 9 (simp t at (f .rest))))
+    (λ t.
+    let e = simp t at (f .rest) in
+    let i : c ≡ whole = cc in
+    let p : next .at ≡ at + 2 + 2 + 2 + 2 = cc in
+    record { soft = rw i (leb-false readLength (softBases whole) t); place = omega arith; inside = omega (arith, f .fits) })
+
+-- ---- an aligned block that is accepted
+
+pub record ReadyBlock (class alphabet : ℕ) (frame : List ℕ) (a : Aligned) : Type 0 where
+  pub least : 1 ≤ a .segment .length
+  pub most : a .segment .length ≤ mostRead
+  pub soft : softBases (a .segment .clips) < a .segment .length
+  pub few : a .segment .edits ≤ mostEdits
+  pub framed : a .segment .«edits_at» + a .segment .edits * widthOf class ≤ length frame
+  pub sound : Sound (mappedLength (a .segment .length) (a .segment .clips)) (sizeOf alphabet) 0 (segmentEdits class alphabet frame (a .segment))
+  pub text : a .text ≡ length (ecigarText class alphabet frame (a .segment))
+  pub inside : a .next .at ≤ length frame
+
+-- the edits, where the block's other fields are accepted
+pub tallied-ready : (class alphabet : ℕ) (frame : List ℕ) (s : Segment) (a : Aligned) → tallied class alphabet frame s ≡ Whole a
+    → 1 ≤ s .length → s .length ≤ mostRead → softBases (s .clips) < s .length → s .«edits_at» ≤ length frame → ReadyBlock class alphabet frame a
+unfolding tallied
+tallied-ready class alphabet frame s a q one most soft inside =
+    by (checkOf class alphabet frame (s .«edits_at») (s .edits) (mappedLength (s .length) (s .clips))) refl q
+  where
+    by : (x : EditsChecked) → checkOf class alphabet frame (s .«edits_at») (s .edits) (mappedLength (s .length) (s .clips)) ≡ x → afterEdits class s x ≡ Whole a → ReadyBlock class alphabet frame a
+    by (edits.Refused n) e z = absurd (let y : _≡_ {A = ℕ} 0 1 = cc in omega arith)
+    by (edits.Fine taken text) e z =
+        let f = checked-fine class alphabet frame (s .«edits_at») (s .edits) (mappedLength (s .length) (s .clips)) taken text e in
+        let m : _≡_ {A = Aligned} a (record { segment = s; taken = taken; text = text + clipsLength (s .clips); next = record { at = behind class s } }) = cc in
+        let i : a .segment ≡ s = ap (λ (x : Aligned). x .segment) m in
+        let t : a .text ≡ text + clipsLength (s .clips) = ap (λ (x : Aligned). x .text) m in
+        let n : a .next .at ≡ behind class s = ap (λ (x : Aligned). x .next .at) m in
+        rw i
+        record {
+          least = one;
+          most = most;
+          soft = soft;
+          few = f .few;
+          framed = f .framed inside;
+          sound = f .sound;
+          text = t ∙ sym (checked-length class alphabet frame s taken text e);
+          inside = omega (arith, n, f .framed inside);
+        }
+
+-- ---- step by step: the place stays inside the frame
+
+-- what follows a checked field that is accepted
+checked-whole : (x : Checked) (f : ℕ → Cursor → AlignedBlock) (a : Aligned) {P : Type 0} → afterChecked Refused x f ≡ Whole a → ((v : ℕ) (c : Cursor) → x ≡ field.Value v c → f v c ≡ Whole a → P) → P
+checked-whole (field.Value v c) f a q go = go v c refl q
+checked-whole (field.Refused n) f a q go = absurd (let z : _≡_ {A = ℕ} 0 1 = cc in omega arith)
+
+module _ (class alphabet : ℕ) (frame : List ℕ) (a : Aligned) where
+  edits-ready : (readLength rcomp : ℕ) (c : Clips) (softAt at : ℕ) → fromEdits class alphabet frame readLength rcomp c softAt at ≡ Whole a
+      → 1 ≤ readLength → readLength ≤ mostRead → softBases c < readLength → at ≤ length frame → ReadyBlock class alphabet frame a
+  unfolding fromEdits
+  edits-ready readLength rcomp c softAt at q one most soft inside =
+      by-test (eqb class classP)
+      (λ t. tallied-ready class alphabet frame (segmentOf readLength rcomp c softAt 0 at) a (simp t at q) one most soft inside)
+      (λ t. checked-whole (countAt frame at) _ a (simp t at q)
+      (λ v next e r. tallied-ready class alphabet frame (segmentOf readLength rcomp c softAt v (next .at)) a r one most soft (count-got frame at v next e .inside)))
+
+  soft-ready : (readLength rcomp : ℕ) (c : Clips) (at : ℕ) → fromSoft class alphabet frame readLength rcomp c at ≡ Whole a
+      → 1 ≤ readLength → readLength ≤ mostRead → softBases c < readLength → at ≤ length frame → ReadyBlock class alphabet frame a
+  unfolding fromSoft
+  soft-ready readLength rcomp c at q one most soft inside =
+      checked-whole (symbolsFrom alphabet frame (softBases c) (softBases c) at) _ a q
+      (λ v next e r.
+      let g = symbols-got alphabet frame (softBases c) (softBases c) at v next e inside in
+      edits-ready readLength rcomp c at (next .at) r one most soft (omega (arith, g .0, g .1)))
+
+  clips-ready : (readLength rcomp at : ℕ) → fromClips class alphabet frame readLength rcomp at ≡ Whole a
+      → 1 ≤ readLength → readLength ≤ mostRead → at ≤ length frame → ReadyBlock class alphabet frame a
+  unfolding fromClips
+  clips-ready readLength rcomp at q one most inside =
+      by-test (ltb class classI)
+      (λ t. edits-ready readLength rcomp noClips at at (simp t at q) one most (omega arith) inside)
+      (λ t. by (clipsAt frame readLength at) refl (simp t at q))
+    where
+      by : (x : Clipped) → clipsAt frame readLength at ≡ x → afterClips class alphabet frame readLength rcomp x ≡ Whole a → ReadyBlock class alphabet frame a
+      by (clips.Refused n) e z = absurd (let y : _≡_ {A = ℕ} 0 1 = cc in omega arith)
+      by (clips.Whole c next) e z =
+          let g = clips-got frame readLength at c next e in
+          soft-ready readLength rcomp c (next .at) z one most (g .soft) (g .inside)
+
+  pub block-ready : (at : ℕ) → alignedAt class alphabet frame at ≡ Whole a → ReadyBlock class alphabet frame a
+  unfolding alignedAt fromRcomp
+  block-ready at q =
+      checked-whole (lengthAt frame at) _ a q
+      (λ readLength next e r.
+      let g = length-got frame at readLength next e in
+      checked-whole (rcompAt frame (next .at)) _ a r
+      (λ rcomp last f z. clips-ready readLength rcomp (last .at) z (g .above) (g .below) (rcomp-got frame (next .at) rcomp last f .inside)))

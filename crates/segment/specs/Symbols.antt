@@ -1,0 +1,22 @@
+-- Runs of symbol indexes, one a byte (document 01, Lines: blocks; refusals 2 and 10).
+-- Assumes nothing.
+use Prim.Native.Nat.{ℕ, zero, suc, _+_}
+use mathlib.Core.Bool.{cond}
+use mathlib.Core.List.{List}
+use lib.Dec.{leb}
+use lib.ListN.{length, getD}
+use Rattle.refusal.specs.Numbers.{misframed, symbolOut}
+use Rattle.unit.specs.Table35.{sizeOf}
+use Rattle.segment.specs.declared.checked.Checked.{Checked}
+use Rattle.segment.specs.declared.checked.Checked.the-variants.{Value, Refused}
+
+-- k symbols from a place on, of a run of `count`: each is there, else 2, and inside the alphabet, else 10
+unfoldable pub symbolsFrom : ℕ → List ℕ → ℕ → ℕ → ℕ → Checked
+symbolsFrom alphabet frame count zero at = Value count (record { at = at })
+symbolsFrom alphabet frame count (suc k) at =
+    cond (leb (length frame) at) (Refused misframed)
+    (cond (leb (sizeOf alphabet) (getD frame at 0)) (Refused symbolOut)
+    (symbolsFrom alphabet frame count k (at + 1)))
+
+abbrev pub symbolsAt : ℕ → List ℕ → ℕ → ℕ → Checked
+symbolsAt alphabet frame count at = symbolsFrom alphabet frame count count at

@@ -1,0 +1,42 @@
+// An unaligned block: a read length and that many symbol indexes.
+use crate::checked::Checked;
+use crate::checked::read_length;
+use crate::symbols::read_symbols;
+use frame::field::Cursor;
+ghost use mathlib.Core.Path.{_≡_};
+ghost use Rattle.frame.specs.Hex.{unhex};
+ghost use Rattle.segment.specs.Unaligned.{unalignedAt, fromLength};
+
+// The read's length, the place of its symbols, and the place behind the block.
+pub struct Unaligned {
+    pub length: u32,
+    pub at: usize,
+    pub next: Cursor,
+}
+
+pub enum UnalignedBlock {
+    Whole(Unaligned),
+    Refused(u32),
+}
+
+pub fn read(line: &[u8], letters: u32, c: Cursor) -> UnalignedBlock
+    ensures { λ r. ⌜ r ≡ unalignedAt letters (unhex (now (line .entry))) (c .at) ⌝ }
+{
+    match read_length(line, c) {
+        Checked::Refused(n) => UnalignedBlock::Refused(n),
+        Checked::Value(length, next) => from_length(line, letters, length, next),
+    }
+}
+
+fn from_length(line: &[u8], letters: u32, length: u32, c: Cursor) -> UnalignedBlock
+    ensures { λ r. ⌜ r ≡ fromLength letters (unhex (now (line .entry))) length (c .at) ⌝ }
+{
+    let at = c.at;
+    match read_symbols(line, letters, length, c) {
+        Checked::Refused(n) => UnalignedBlock::Refused(n),
+        Checked::Value(_, next) => {
+            let whole = Unaligned { length, at, next };
+            UnalignedBlock::Whole(whole)
+        }
+    }
+}
