@@ -1,0 +1,332 @@
+-- The laws of the last kept line: what each line of a listing says, and which lines can be continued.
+-- Assumes nothing.
+use Prim.Native.Nat.{ℕ, zero, suc, _+_, _-_, _*_, _%_, _≤_, _<_}
+use native.Mathlib.Nat.{add-zero, zero-add, zero-mul}
+use native.Mathlib.Numerals.{add-one}
+use native.Mathlib.Omega.{arith}
+use mathlib.Core.Path.{_≡_, refl, sym, ap, _∙_}
+use mathlib.Core.Bool.{true, false}
+use mathlib.Core.List.{List, [], _∷_, _++_, append-assoc, append-nil}
+use lib.Dec.{ltb, leb, eqb, lit<, lit≤}
+use lib.ListN.{length, getD, take, drop, set, length-set, drop-of-length-le, List·getD-eq-default}
+use lib.Seq.{drop-cons, take-all, take-suc-set, length-take-le}
+use borrow.Author.Tests.{lt-ltb, le-ltb, ltb-true, ltb-false, eq-eqb, ne-eqb, eqb-true, eqb-false, leb-true, leb-false}
+use Rattle.frame.specs.Hex.{Bytes, unhex, be}
+use Rattle.frame.specs.Line.{lineWithin}
+use Rattle.frame.specs.Field.{bigAt}
+use Rattle.frame.specs.declared.line.Line.{Line}
+use Rattle.frame.specs.declared.line.Line.the-variants.{Frame, Malformed}
+use Rattle.frame.proofs.HexLaws.{by-test, false-true, byte-lt}
+use Rattle.frame.proofs.FieldLaws.{bigAt-lt}
+use Rattle.frame.proofs.LineLaws.{lineOfBytes, unhex-line, line-is-frame, frame-is-line}
+use Rattle.unit.specs.State.{subsequences}
+use Rattle.unit.specs.declared.State.{State}
+use Rattle.unit.specs.Kinds.{kindListed, kindRefused, kindDone}
+use Rattle.listing.specs.Record.{mostListed, leastListed, numberPlace, indexPlace}
+use Rattle.listing.specs.Listing.{line05, line06}
+use Rattle.listing.specs.Resuming.{Last, goOn, whole, bad, bytes05, bytes06, wordsAt, stateAt, within, listedLast, frameLast, ifFrame, lastOf, ListedLine, ClosingLine}
+
+-- ---- within
+
+pub within-all : (is cs : List ℕ) → length is ≡ length cs → ((i : ℕ) → getD is i 0 ≤ getD cs i 0) → within is cs ≡ true
+unfolding within
+within-all [] [] e h = refl
+within-all [] (c ∷ cs) e h = absurd (omega arith)
+within-all (i ∷ is) [] e h = absurd (omega arith)
+within-all (i ∷ is) (c ∷ cs) e h = rw (le-ltb c i (h 0)) (within-all is cs (omega arith) (λ j. h (suc j)))
+
+pub within-each : (is cs : List ℕ) → within is cs ≡ true → (i : ℕ) → getD is i 0 ≤ getD cs i 0
+unfolding within
+within-each [] [] e i = omega arith
+within-each [] (c ∷ cs) e i = false-true e
+within-each (i ∷ is) [] e j = false-true e
+within-each (i ∷ is) (c ∷ cs) e zero = by-test (ltb c i) (λ t. false-true (simp t at e)) (λ t. ltb-false c i t)
+within-each (i ∷ is) (c ∷ cs) e (suc j) = by-test (ltb c i) (λ t. false-true (simp t at e)) (λ t. within-each is cs (simp t at e) j)
+
+-- the comparison, at place j of both
+module _ (is cs : List ℕ) (j : ℕ) where
+  pub within-over : length is ≤ j → length cs ≤ j → within (drop j is) (drop j cs) ≡ true
+  unfolding within
+  within-over h k = rw (drop-of-length-le is {i = j} h, drop-of-length-le cs {i = j} k)
+
+  module _ (h : j < length is) (k : j < length cs) where
+    pub within-stops : getD cs j 0 < getD is j 0 → within (drop j is) (drop j cs) ≡ false
+    unfolding within
+    within-stops l = rw (drop-cons is j 0 h, drop-cons cs j 0 k, lt-ltb _ _ l)
+
+    pub within-goes : getD is j 0 ≤ getD cs j 0 → within (drop j is) (drop j cs) ≡ within (drop (j + 1) is) (drop (j + 1) cs)
+    unfolding within
+    within-goes l = rw (drop-cons is j 0 h, drop-cons cs j 0 k, le-ltb _ _ l, add-one)
+
+-- ---- the numbers of a frame, one by one
+
+pub word-is : (s : List ℕ) (at a b : ℕ) → a ≡ getD s at 0 → b ≡ getD s (at + 1) 0 → a * 256 + b ≡ bigAt 2 s at
+unfolding bigAt
+word-is s at a b e f = rw (e, f, add-zero, zero-mul, zero-add)
+
+-- two bytes hold no more than a u16
+pub word-below : {v : ℕ} (line : List ℕ) (at : ℕ) → v ≡ bigAt 2 (unhex line) at → v < 65536
+word-below line at e = rw e (bigAt-lt 2 (unhex line) at (byte-lt line))
+
+-- the indexes, read one after the other into their places
+pub record Words (bs index : List ℕ) (j : ℕ) : Type 0 where
+  pub most : j ≤ subsequences
+  pub all : length index ≡ subsequences
+  pub comes : take j index ++ wordsAt (subsequences - j) bs (indexPlace + 2 * j) ≡ wordsAt subsequences bs indexPlace
+
+pub words-none : (bs index : List ℕ) → length index ≡ subsequences → Words bs index 0
+words-none bs index e = record { most = omega arith; all = e; comes = refl }
+
+pub words-more : (bs index : List ℕ) (j v : ℕ) → Words bs index j → j < subsequences → v ≡ bigAt 2 bs (indexPlace + 2 * j) → Words bs (set index j v) (j + 1)
+unfolding wordsAt
+words-more bs index j v w h e =
+    let one : subsequences - j ≡ suc (subsequences - (j + 1)) = omega arith in
+    let two : indexPlace + 2 * j + 2 ≡ indexPlace + 2 * (j + 1) = omega arith in
+    let next : wordsAt (subsequences - j) bs (indexPlace + 2 * j) ≡ v ∷ wordsAt (subsequences - (j + 1)) bs (indexPlace + 2 * (j + 1)) = rw (one, two, ← e) in
+    record {
+      most = omega arith;
+      all = simp length-set (w .all);
+      comes =
+          rw (add-one j, take-suc-set index j v (omega (arith, w .all)), append-assoc, ← add-one j)
+          (ap (λ (l : List ℕ). take j index ++ l) (sym next) ∙ w .comes);
+    }
+
+pub words-all : (bs index : List ℕ) → Words bs index subsequences → index ≡ wordsAt subsequences bs indexPlace
+unfolding wordsAt
+words-all bs index w = sym (ap (λ (l : List ℕ). l ++ []) (take-all subsequences index (omega (arith, w .all))) ∙ append-nil index) ∙ w .comes
+
+pub length-wordsAt : (k : ℕ) (bs : List ℕ) (at : ℕ) → length (wordsAt k bs at) ≡ k
+unfolding wordsAt
+length-wordsAt zero bs at = refl
+length-wordsAt (suc k) bs at = ap suc (length-wordsAt k bs (at + 2))
+
+pub wordsAt-each : (k : ℕ) (bs : List ℕ) (at i : ℕ) → i < k → getD (wordsAt k bs at) i 0 ≡ bigAt 2 bs (at + 2 * i)
+unfolding wordsAt
+wordsAt-each zero bs at i h = absurd (omega arith)
+wordsAt-each (suc k) bs at zero h = ap (bigAt 2 bs) (let q : at ≡ at + 2 * 0 = omega arith in q)
+wordsAt-each (suc k) bs at (suc i) h =
+    wordsAt-each k bs (at + 2) i (omega arith) ∙ ap (bigAt 2 bs) (let q : at + 2 + 2 * i ≡ at + 2 * suc i = omega arith in q)
+
+-- ---- what a line says
+
+-- the line of some bytes says what they say
+pub last-bytes : (count : ℕ) (counts bs : List ℕ) → Bytes bs → 2 * length bs ≤ mostListed → lastOf count counts (lineOfBytes bs) ≡ frameLast count counts bs
+unfolding lastOf
+last-bytes count counts bs h l = rw (line-is-frame mostListed bs h l, unhex-line bs h)
+
+pub last-05 : (count : ℕ) (counts : List ℕ) (q n : ℕ) → lastOf count counts (line05 q n) ≡ whole
+unfolding line05 frameLast be Bytes
+last-05 count counts q n =
+    last-bytes count counts (be 1 kindRefused ++ be 2 q ++ be 1 n) (lit< tt, (omega arith, (omega arith, (omega arith, tt)))) (lit≤ tt)
+
+pub last-06 : (count : ℕ) (counts : List ℕ) (q : ℕ) → lastOf count counts (line06 q) ≡ whole
+unfolding line06 frameLast be Bytes
+last-06 count counts q =
+    last-bytes count counts (be 1 kindDone ++ be 2 q) (lit< tt, (omega arith, (omega arith, tt))) (lit≤ tt)
+
+pub frame-listed : (count : ℕ) (counts bs : List ℕ) → getD bs 0 0 ≡ kindListed → leastListed ≤ length bs → bigAt 2 bs numberPlace < count
+    → within (stateAt bs .index) counts ≡ true → frameLast count counts bs ≡ goOn (stateAt bs)
+unfolding frameLast listedLast
+frame-listed count counts bs k l n w = simp (eq-eqb _ _ k, le-ltb (length bs) leastListed l, lt-ltb (bigAt 2 bs numberPlace) count n, w)
+
+-- what is said, by the tests of the code, where its numbers are the frame's
+module _ (count : ℕ) (counts bs : List ℕ) (n : ℕ) (size : n ≡ length bs) where
+  pub listed-short : n < leastListed → bad ≡ listedLast count counts bs
+  unfolding listedLast
+  listed-short l = rw (← size, lt-ltb n leastListed l)
+
+  module _ (l : leastListed ≤ n) (q : ℕ) (number : q ≡ bigAt 2 bs numberPlace) where
+    pub listed-far : count ≤ q → bad ≡ listedLast count counts bs
+    unfolding listedLast
+    listed-far h = rw (← size, le-ltb n leastListed l, ← number, le-ltb q count h)
+
+    module _ (h : q < count) (s : State) (state : s ≡ stateAt bs) where
+      pub listed-above : within (s .index) counts ≡ false → bad ≡ listedLast count counts bs
+      unfolding listedLast
+      listed-above w = rw (← size, le-ltb n leastListed l, ← number, lt-ltb q count h, ← state, w)
+
+      pub listed-fits : within (s .index) counts ≡ true → goOn s ≡ listedLast count counts bs
+      unfolding listedLast
+      listed-fits w = rw (← size, le-ltb n leastListed l, ← number, lt-ltb q count h, ← state, w)
+
+-- and of a frame of kind k
+module _ (count : ℕ) (counts bs : List ℕ) (n : ℕ) (size : n ≡ length bs) (k : ℕ) (kind : k ≡ getD bs 0 0) where
+  pub frame-is-listed : k ≡ kindListed → listedLast count counts bs ≡ frameLast count counts bs
+  unfolding frameLast
+  frame-is-listed a = rw (← kind, eq-eqb k kindListed a)
+
+  module _ (a : k ≡ kindListed → ⊥) where
+    pub frame-05 : k ≡ kindRefused → n ≡ bytes05 → whole ≡ frameLast count counts bs
+    unfolding frameLast
+    frame-05 b l = simp (sym kind, sym size, ne-eqb k kindListed a, eq-eqb k kindRefused b, eq-eqb n bytes05 l)
+
+    pub frame-not-05 : k ≡ kindRefused → (n ≡ bytes05 → ⊥) → bad ≡ frameLast count counts bs
+    unfolding frameLast
+    frame-not-05 b l = simp (sym kind, sym size, ne-eqb k kindListed a, eq-eqb k kindRefused b, ne-eqb n bytes05 l)
+
+    module _ (b : k ≡ kindRefused → ⊥) where
+      pub frame-06 : k ≡ kindDone → n ≡ bytes06 → whole ≡ frameLast count counts bs
+      unfolding frameLast
+      frame-06 d l = simp (sym kind, sym size, ne-eqb k kindListed a, ne-eqb k kindRefused b, eq-eqb k kindDone d, eq-eqb n bytes06 l)
+
+      pub frame-not-06 : k ≡ kindDone → (n ≡ bytes06 → ⊥) → bad ≡ frameLast count counts bs
+      unfolding frameLast
+      frame-not-06 d l = simp (sym kind, sym size, ne-eqb k kindListed a, ne-eqb k kindRefused b, eq-eqb k kindDone d, ne-eqb n bytes06 l)
+
+      pub frame-other : (k ≡ kindDone → ⊥) → bad ≡ frameLast count counts bs
+      unfolding frameLast
+      frame-other d = simp (sym kind, ne-eqb k kindListed a, ne-eqb k kindRefused b, ne-eqb k kindDone d)
+
+pub last-malformed : (count : ℕ) (counts line : List ℕ) → lineWithin mostListed line ≡ Malformed → bad ≡ lastOf count counts line
+unfolding lastOf
+last-malformed count counts line e = rw e
+
+pub last-frame : (count : ℕ) (counts line : List ℕ) (n : ℕ) → lineWithin mostListed line ≡ Frame n → frameLast count counts (unhex line) ≡ lastOf count counts line
+unfolding lastOf
+last-frame count counts line n e = rw e
+
+-- ---- so much of a line as the longest has, and one byte more, is enough
+
+too-long : (most : ℕ) (s : List ℕ) → most + 1 < length s → lineWithin most s ≡ Malformed
+unfolding lineWithin
+too-long most s h = by-test (eqb (length s % 2) 0) (λ t. rw t) (λ t. rw (t, lt-ltb most (length s - 1) (omega arith)))
+
+pub last-near : (count : ℕ) (counts : List ℕ) (n : ℕ) (line : List ℕ) → mostListed + 1 < n → lastOf count counts (take n line) ≡ lastOf count counts line
+unfolding lastOf
+last-near count counts n line h =
+    by-test (leb (length line) n)
+    (λ t. rw (take-all n line (leb-true (length line) n t)))
+    (λ t. let l = leb-false (length line) n t in
+    rw (too-long mostListed line (omega arith), too-long mostListed (take n line) (rw (length-take-le n line (omega arith)) h)))
+
+-- ---- which lines say something, field by field
+
+-- the indexes of a frame are not above the counts, said one by one
+within-fields : (counts bs : List ℕ) → length counts ≡ subsequences
+    → ((i : ℕ) → i < subsequences → bigAt 2 bs (indexPlace + 2 * i) ≤ getD counts i 0) → within (stateAt bs .index) counts ≡ true
+unfolding stateAt
+within-fields counts bs e h =
+    within-all _ counts (length-wordsAt subsequences bs indexPlace ∙ sym e)
+    (λ i. by-test (ltb i subsequences)
+    (λ t. let l = ltb-true i subsequences t in rw (wordsAt-each subsequences bs indexPlace i l) (h i l))
+    (λ t. rw (List·getD-eq-default (wordsAt subsequences bs indexPlace) 0 {n = i} (rw (length-wordsAt subsequences bs indexPlace) (ltb-false i subsequences t))) (omega arith)))
+
+fields-within : (counts bs : List ℕ) → within (stateAt bs .index) counts ≡ true
+    → (i : ℕ) → i < subsequences → bigAt 2 bs (indexPlace + 2 * i) ≤ getD counts i 0
+unfolding stateAt
+fields-within counts bs e i h = rw (← wordsAt-each subsequences bs indexPlace i h) (within-each _ counts e i)
+
+-- a line, sorted by what it says
+pub data Sorted (count : ℕ) (counts line : List ℕ) : Last → Type 0 where
+  listed : ListedLine count counts line → Sorted count counts line (goOn (stateAt (unhex line)))
+  closed05 : ClosingLine kindRefused bytes05 line → Sorted count counts line whole
+  closed06 : ClosingLine kindDone bytes06 line → Sorted count counts line whole
+  other : (ListedLine count counts line → ⊥) → (ClosingLine kindRefused bytes05 line → ⊥) → (ClosingLine kindDone bytes06 line → ⊥) → Sorted count counts line bad
+
+module _ (count : ℕ) (counts line : List ℕ) (all : length counts ≡ subsequences) where
+  module _ (n : ℕ) (e : lineWithin mostListed line ≡ Frame n) where
+    -- the bytes that a well-formed line is said to have are those of its frame
+    size : (m : ℕ) → lineWithin mostListed line ≡ Frame m → m ≡ length (unhex line)
+    size m q = frame-is-line mostListed line m q .count
+
+    digits : (m : ℕ) → length (unhex line) ≡ m → lineWithin mostListed line ≡ Frame m
+    digits m q = e ∙ ap Frame (size n e ∙ q)
+
+    -- of another kind
+    not-listed : (getD (unhex line) 0 0 ≡ kindListed → ⊥) → ListedLine count counts line → ⊥
+    not-listed h w = h (w .kind)
+
+    not-closed : (k b : ℕ) → (getD (unhex line) 0 0 ≡ k → ⊥) → ClosingLine k b line → ⊥
+    not-closed k b h w = h (w .kind)
+
+    -- of another length
+    not-long : (k b : ℕ) → (length (unhex line) ≡ b → ⊥) → ClosingLine k b line → ⊥
+    not-long k b h w = h (sym (size b (w .digits)))
+
+    sorted-listed : getD (unhex line) 0 0 ≡ kindListed → Sorted count counts line (listedLast count counts (unhex line))
+    unfolding listedLast
+    sorted-listed k =
+        let five = not-closed kindRefused bytes05 (λ q. omega arith) in
+        let six = not-closed kindDone bytes06 (λ q. omega arith) in
+        by-test (ltb (length (unhex line)) leastListed)
+        (λ t. rw t (other (λ w. omega (arith, w .least, size (w .bytes) (w .digits), ltb-true (length (unhex line)) leastListed t)) five six))
+        (λ t. rw t
+        (by-test (ltb (bigAt 2 (unhex line) numberPlace) count)
+        (λ u. rw u
+        (by-test (within (stateAt (unhex line) .index) counts)
+        (λ v. rw v
+        (listed (record {
+          bytes = n;
+          digits = e;
+          kind = k;
+          least = omega (arith, size n e, ltb-false (length (unhex line)) leastListed t);
+          in-count = ltb-true _ _ u;
+          in-counts = fields-within counts (unhex line) v;
+        })))
+        (λ v. rw v (other (λ w. false-true {P = ⊥} (sym v ∙ within-fields counts (unhex line) all (w .in-counts))) five six))))
+        (λ u. rw u (other (λ w. omega (arith, w .in-count, ltb-false (bigAt 2 (unhex line) numberPlace) count u)) five six))))
+
+    sorted-frame : Sorted count counts line (frameLast count counts (unhex line))
+    unfolding frameLast
+    sorted-frame =
+        by-test (eqb (getD (unhex line) 0 0) kindListed)
+        (λ t. rw t (sorted-listed (eqb-true _ _ t)))
+        (λ t. rw t
+        (let four = not-listed (eqb-false (getD (unhex line) 0 0) kindListed t) in
+        by-test (eqb (getD (unhex line) 0 0) kindRefused)
+        (λ u. rw u
+        (let k : getD (unhex line) 0 0 ≡ kindRefused = eqb-true _ _ u in
+        let six = not-closed kindDone bytes06 (λ q. omega arith) in
+        by-test (eqb (length (unhex line)) bytes05)
+        (λ v. rw v (closed05 (record { digits = digits bytes05 (eqb-true _ _ v); kind = k })))
+        (λ v. rw v (other four (not-long kindRefused bytes05 (eqb-false (length (unhex line)) _ v)) six))))
+        (λ u. rw u
+        (let five = not-closed kindRefused bytes05 (eqb-false (getD (unhex line) 0 0) kindRefused u) in
+        by-test (eqb (getD (unhex line) 0 0) kindDone)
+        (λ x. rw x
+        (let k : getD (unhex line) 0 0 ≡ kindDone = eqb-true _ _ x in
+        by-test (eqb (length (unhex line)) bytes06)
+        (λ v. rw v (closed06 (record { digits = digits bytes06 (eqb-true _ _ v); kind = k })))
+        (λ v. rw v (other four five (not-long kindDone bytes06 (eqb-false (length (unhex line)) _ v))))))
+        (λ x. rw x (other four five (not-closed kindDone bytes06 (eqb-false (getD (unhex line) 0 0) kindDone x))))))))
+
+  -- a malformed line says nothing
+  malformed-frame : (m : ℕ) → lineWithin mostListed line ≡ Malformed → lineWithin mostListed line ≡ Frame m → ⊥
+  malformed-frame m e q = let z : _≡_ {A = ℕ} 0 1 = cc in omega arith
+
+  pub sorted : Sorted count counts line (lastOf count counts line)
+  unfolding lastOf
+  sorted = by (lineWithin mostListed line) refl
+    where
+      by : (t : Line) → lineWithin mostListed line ≡ t → Sorted count counts line (ifFrame t (frameLast count counts (unhex line)))
+      by (Frame n) e = sorted-frame n e
+      by Malformed e = other (λ w. malformed-frame (w .bytes) e (w .digits)) (λ w. malformed-frame bytes05 e (w .digits)) (λ w. malformed-frame bytes06 e (w .digits))
+
+  -- and back: what each sort of line says
+
+  pub said-listed : ListedLine count counts line → lastOf count counts line ≡ goOn (stateAt (unhex line))
+  said-listed w = by sorted
+    where
+      by : {t : Last} → Sorted count counts line t → t ≡ goOn (stateAt (unhex line))
+      by (listed v) = refl
+      by (closed05 v) = absurd (omega (arith, w .kind, v .kind))
+      by (closed06 v) = absurd (omega (arith, w .kind, v .kind))
+      by (other a b d) = absurd (a w)
+
+  pub said-05 : ClosingLine kindRefused bytes05 line → lastOf count counts line ≡ whole
+  said-05 w = by sorted
+    where
+      by : {t : Last} → Sorted count counts line t → t ≡ whole
+      by (listed v) = absurd (omega (arith, w .kind, v .kind))
+      by (closed05 v) = refl
+      by (closed06 v) = refl
+      by (other a b d) = absurd (b w)
+
+  pub said-06 : ClosingLine kindDone bytes06 line → lastOf count counts line ≡ whole
+  said-06 w = by sorted
+    where
+      by : {t : Last} → Sorted count counts line t → t ≡ whole
+      by (listed v) = absurd (omega (arith, w .kind, v .kind))
+      by (closed05 v) = refl
+      by (closed06 v) = refl
+      by (other a b d) = absurd (d w)

@@ -1,0 +1,13 @@
+pub mod Demand2
+pub mod Demand3
+pub mod LinesLaws
+pub mod WordLaws
+pub mod LastLaws
+pub mod ListingLaws
+pub mod TurnLaws
+pub mod ResumeLaws
+pub mod PlaceLaws
+pub mod FilesLaws
+pub mod KeepLaws
+pub mod PassLaws
+pub mod Sample

@@ -1,0 +1,166 @@
+-- The laws of lines: what is kept of whole lines that were stopped anywhere, and that the line of any bytes is a whole line.
+-- Assumes nothing.
+use Prim.Native.Nat.{ℕ, zero, suc, _+_, _/_, _%_, _≤_, _<_}
+use native.Mathlib.Nat.{le-of-suc-le-suc, not-suc-le-zero, le-of-lt}
+use native.Mathlib.Numerals.{add-one}
+use native.Mathlib.Omega.{arith}
+use mathlib.Core.Path.{_≡_, refl, sym, ap, _∙_}
+use mathlib.Core.Bool.{Bool, true, false}
+use mathlib.Core.Logic.{_⊎_, inl, inr}
+use mathlib.Core.List.{List, [], _∷_, _++_, append-assoc}
+use lib.ListN.{length, getD, take, drop, replicate, drop-of-length-le}
+use lib.Seq.{take-append-le, take-append-add, drop-cons, take-all, length-take-le}
+use lib.Dec.{eqb, ltb, leb}
+use borrow.Author.Tests.{eq-eqb, ne-eqb, eqb-true, leb-true, leb-false}
+use Rattle.frame.specs.Hex.{glyph, hexOf, unhex}
+use Rattle.frame.specs.Line.{lineEnd, lineWithin}
+use Rattle.frame.specs.declared.line.Line.the-variants.{Frame}
+use Rattle.frame.proofs.HexLaws.{by-test, false-true}
+use Rattle.frame.proofs.LineLaws.{lineOfBytes, frame-is-line}
+use Rattle.listing.specs.Lines.{pushByte, linesOf, ends, keptWith, kept, WholeLine, end, more, same}
+
+-- ---- same
+
+pub same-refl : (l : List ℕ) → same l l ≡ true
+unfolding same
+same-refl [] = refl
+same-refl (x ∷ l) = simp (eq-eqb x x refl, same-refl l)
+
+pub same-true : (a b : List ℕ) → same a b ≡ true → a ≡ b
+unfolding same
+same-true [] [] e = refl
+same-true [] (y ∷ ys) e = false-true e
+same-true (x ∷ xs) [] e = false-true e
+same-true (x ∷ xs) (y ∷ ys) e =
+    by-test (eqb x y)
+    (λ t. rw (eqb-true x y t) (ap (λ (l : List ℕ). y ∷ l) (same-true xs ys (simp t at e))))
+    (λ t. false-true (simp t at e))
+
+pub same-false : (a b : List ℕ) → (a ≡ b → ⊥) → same a b ≡ false
+same-false a b h = by (same a b) refl
+  where
+    by : (t : Bool) → same a b ≡ t → t ≡ false
+    by true e = absurd (h (same-true a b e))
+    by false e = refl
+
+pub same-not : (a b : List ℕ) → same a b ≡ false → a ≡ b → ⊥
+same-not a b e h = false-true {P = ⊥} (sym e ∙ ap (same a) (sym h) ∙ same-refl a)
+
+-- a comparison, at place i of both
+
+pub same-longer : (a b : List ℕ) → (length a ≡ length b → ⊥) → same a b ≡ false
+same-longer a b h = same-false a b (λ e. h (ap length e))
+
+module _ (a b : List ℕ) (i : ℕ) where
+  pub same-over : length a ≤ i → length b ≤ i → same (drop i a) (drop i b) ≡ true
+  unfolding same
+  same-over h k = rw (drop-of-length-le a {i = i} h, drop-of-length-le b {i = i} k)
+
+  module _ (h : i < length a) (k : i < length b) where
+    pub same-stops : (getD a i 0 ≡ getD b i 0 → ⊥) → same (drop i a) (drop i b) ≡ false
+    unfolding same
+    same-stops e = rw (drop-cons a i 0 h, drop-cons b i 0 k, ne-eqb _ _ e)
+
+    pub same-goes : getD a i 0 ≡ getD b i 0 → same (drop i a) (drop i b) ≡ same (drop (i + 1) a) (drop (i + 1) b)
+    unfolding same
+    same-goes e = rw (drop-cons a i 0 h, drop-cons b i 0 k, eq-eqb _ _ e, add-one)
+
+-- so much of the first as the second is long, and one byte more, is enough
+pub same-near : (n : ℕ) (a b : List ℕ) → length b < n → same (take n a) b ≡ same a b
+same-near n a b h =
+    by-test (leb (length a) n)
+    (λ t. rw (take-all n a (leb-true (length a) n t)))
+    (λ t. let l = leb-false (length a) n t in
+    same-longer (take n a) b (λ e. omega (arith, length-take-le n a (omega arith))) ∙ sym (same-longer a b (λ e. omega arith)))
+
+-- ---- whole lines
+
+glyph-from : (d : ℕ) → 48 ≤ glyph d
+unfolding glyph
+glyph-from d =
+    by-test (ltb d 10) (λ e. rw e (omega arith)) (λ e. rw e (omega arith))
+
+-- whatever its bytes are, what is written for them has one 0A, at its end, and no zero byte
+pub whole-bytes : (bs : List ℕ) → WholeLine (lineOfBytes bs)
+unfolding hexOf
+whole-bytes [] = end
+whole-bytes (b ∷ bs) = put (b / 16) (put (b % 16) (whole-bytes bs))
+  where
+    put : (d : ℕ) {l : List ℕ} → WholeLine l → WholeLine (glyph d ∷ l)
+    put d h =
+        more (ne-eqb (glyph d) 0 (λ e. omega (arith, glyph-from d, e)))
+        (ne-eqb (glyph d) 10 (λ e. omega (arith, glyph-from d, e))) h
+
+-- a well-formed line is a whole line
+pub whole-frame : (most : ℕ) (l : List ℕ) (n : ℕ) → lineWithin most l ≡ Frame n → WholeLine l
+whole-frame most l n e = rw (frame-is-line most l n e .line) (whole-bytes (unhex l))
+
+pub whole-ends : {l : List ℕ} → WholeLine l → ends l ≡ true
+unfolding ends
+whole-ends end = refl
+whole-ends (more a b end) = refl
+whole-ends (more a b (more c d h)) = whole-ends (more c d h)
+
+pub whole-long : {l : List ℕ} → WholeLine l → 0 < length l
+whole-long end = omega arith
+whole-long (more a b h) = omega arith
+
+-- ---- a whole line in front of a file
+
+kept-end : (ys : List ℕ) → keptWith lineEnd ys ≡ lineEnd ∷ ys
+unfolding keptWith
+kept-end [] = refl
+kept-end (y ∷ ys) = refl
+
+kept-with : (x : ℕ) {l : List ℕ} → WholeLine l → (r : List ℕ) → keptWith x (l ++ r) ≡ x ∷ (l ++ r)
+unfolding keptWith
+kept-with x end r = refl
+kept-with x (more a b h) r = refl
+
+-- it is kept, and so is what is kept of what stands behind it
+pub kept-line : {l : List ℕ} → WholeLine l → (r : List ℕ) → kept (l ++ r) ≡ l ++ kept r
+unfolding kept
+kept-line end r = kept-end (kept r)
+kept-line (more {x} {l} a b h) r = simp (a, kept-line h r, kept-with x h (kept r))
+
+pub lines-line : {l : List ℕ} → WholeLine l → (r : List ℕ) → linesOf (l ++ r) ≡ l ∷ linesOf r
+unfolding linesOf pushByte
+lines-line end r = refl
+lines-line (more {x} {l} a b h) r = simp (b, lines-line h r)
+
+-- ---- a stop
+
+pub kept-zeros : (k : ℕ) → kept (replicate k 0) ≡ []
+unfolding kept
+kept-zeros zero = refl
+kept-zeros (suc k) = refl
+
+-- nothing is kept of a line that is cut
+pub kept-part : {l : List ℕ} → WholeLine l → (n k : ℕ) → n < length l → kept (take n l ++ replicate k 0) ≡ []
+unfolding kept keptWith
+kept-part end zero k lt = kept-zeros k
+kept-part end (suc n) k lt = absurd (not-suc-le-zero (le-of-suc-le-suc lt))
+kept-part (more a b h) zero k lt = kept-zeros k
+kept-part (more {x} {l} a b h) (suc n) k lt = simp (a, kept-part h n k (le-of-suc-le-suc lt), b)
+
+-- a stop falls into the first line, or behind it
+split : (l : List ℕ) (n : ℕ) → (n < length l) ⊎ ((j : ℕ) × (n ≡ length l + j))
+split [] n = inr (n, omega arith)
+split (x ∷ l) zero = inl (omega arith)
+split (x ∷ l) (suc n) = further (split l n)
+  where
+    further : (n < length l) ⊎ ((j : ℕ) × (n ≡ length l + j)) → (suc n < length (x ∷ l)) ⊎ ((j : ℕ) × (suc n ≡ length (x ∷ l) + j))
+    further (inl h) = inl (omega arith)
+    further (inr h) = inr (h .0, omega (arith, h .1))
+
+-- so what is kept, q, is nothing, or the line and what is kept of the rest
+pub data Cut (l r : List ℕ) (k : ℕ) (q : List ℕ) : Type 0 where
+  inside : q ≡ [] → Cut l r k q
+  beyond : (j : ℕ) → q ≡ l ++ kept (take j r ++ replicate k 0) → Cut l r k q
+
+pub kept-cut : {l : List ℕ} → WholeLine l → (r : List ℕ) (n k : ℕ) → Cut l r k (kept (take n (l ++ r) ++ replicate k 0))
+kept-cut {l} h r n k = by (split l n)
+  where
+    by : (n < length l) ⊎ ((j : ℕ) × (n ≡ length l + j)) → Cut l r k (kept (take n (l ++ r) ++ replicate k 0))
+    by (inl lt) = inside (rw (take-append-le n l r (le-of-lt lt)) (kept-part h n k lt))
+    by (inr e) = beyond (e .0) (rw (e .1, take-append-add l r (e .0), append-assoc) (kept-line h (take (e .0) r ++ replicate k 0)))

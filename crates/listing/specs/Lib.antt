@@ -1,0 +1,9 @@
+pub mod Lines
+pub mod Record
+pub mod Listing
+pub mod Files
+pub mod Resuming
+pub mod Turn
+pub mod Keep
+pub mod Pass
+pub mod Last

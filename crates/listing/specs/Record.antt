@@ -1,0 +1,86 @@
+-- What a listing asks of the record call (document 01, The listing and Order): the call is the field `step` of a setup, and `Lawful` is what it must keep to.
+-- Assumes nothing.
+use Prim.Native.Nat.{ℕ, _+_, _*_, _<_, _≤_}
+use mathlib.Core.Path.{_≡_}
+use mathlib.Core.List.{List, [], _∷_, _++_}
+use lib.ListN.{length, getD}
+use Rattle.refusal.specs.Numbers.{noRoom}
+use Rattle.frame.specs.Hex.{Bytes, unhex, be}
+use Rattle.frame.specs.Line.{lineOf}
+use Rattle.frame.specs.declared.line.Line.the-variants.{Frame}
+use Rattle.unit.specs.Unit.{mostRecords}
+use Rattle.unit.specs.State.{subsequences, mostSymbols}
+use Rattle.unit.specs.declared.State.{State}
+use Rattle.unit.specs.Kinds.{kindUnit, kindListed}
+
+-- The listing: the most digits of a listing line; with its 0A an 04 line needs no more than one byte more
+abbrev pub mostListed : ℕ
+mostListed = 20148
+
+-- Resuming: the fewest bytes of an 04 line, those before its segments
+abbrev pub leastListed : ℕ
+leastListed = 28
+
+-- what a record call answers: a refusal number, or the 04 line's bytes and the next state
+pub data Step : Type 0 where
+  refused : ℕ → Step
+  accepted : List ℕ → State → Step
+
+-- a unit whose unit line, pair lines and reference are all accepted
+pub record Setup : Type 0 where
+  -- the unit line with its 0A
+  pub first : List ℕ
+  -- the record count, and the symbol count of each subsequence
+  pub count : ℕ
+  pub counts : List ℕ
+  -- the record call at this unit, these pair symbols and this reference, lent the longest line: from a state and a record line
+  pub step : State → List ℕ → Step
+  -- the lines of the unit file behind the pair lines
+  pub lines : List (List ℕ)
+
+-- numbers as u16 each
+unfoldable pub words : List ℕ → List ℕ
+words [] = []
+words (x ∷ xs) = be 2 x ++ words xs
+
+-- The listing: an 04 line begins with its kind, the record number u16 and "the eight pair indexes after this record u16 each"
+unfoldable pub headOf : ℕ → State → List ℕ
+headOf number next = be 1 kindListed ++ be 2 number ++ words (next .index)
+
+-- where the head has the record number
+abbrev pub numberPlace : ℕ
+numberPlace = 1
+
+-- and its first index
+abbrev pub indexPlace : ℕ
+indexPlace = 3
+
+-- what an accepted call says: the line is well formed; its 04 line carries this record's number and the indexes after it, which the unit allows; the next state is the next record's
+pub record Accepted (E : Setup) (s : State) (line frame : List ℕ) (next : State) : Type 0 where
+  pub size : ℕ
+  pub well-formed : lineOf line ≡ Frame size
+  pub tail : List ℕ
+  pub head : frame ≡ headOf (s .number) next ++ tail
+  pub bytes : Bytes frame
+  pub least : leastListed ≤ length frame
+  pub most : 2 * length frame ≤ mostListed
+  pub in-count : s .number < E .count
+  pub number : next .number ≡ s .number + 1
+  pub indexes : length (next .index) ≡ subsequences
+  pub in-counts : (i : ℕ) → getD (next .index) i 0 ≤ getD (E .counts) i 0
+
+-- a unit line, as far as a listing needs to know it: well formed, and of kind 01
+pub record FirstLine (line : List ℕ) : Type 0 where
+  pub size : ℕ
+  pub well-formed : lineOf line ≡ Frame size
+  pub kind : getD (unhex line) 0 0 ≡ kindUnit
+
+-- what the theorems ask of a setup: of the record call only at states that have an index for each subsequence; it may answer any number of the table but 17
+pub record Lawful (E : Setup) : Type 0 where
+  pub unit : FirstLine (E .first)
+  pub count-fits : E .count ≤ mostRecords
+  pub counts-all : length (E .counts) ≡ subsequences
+  pub counts-fit : (i : ℕ) → getD (E .counts) i 0 ≤ mostSymbols
+  pub refusal : (s : State) (line : List ℕ) (n : ℕ) → length (s .index) ≡ subsequences → E .step s line ≡ refused n → n < noRoom
+  pub acceptance : (s : State) (line frame : List ℕ) (next : State) → length (s .index) ≡ subsequences → E .step s line ≡ accepted frame next
+      → Accepted E s line frame next
