@@ -5,3 +5,4 @@ pub mod LineLaws
 pub mod NextLaws
 pub mod WholeLaws
 pub mod DecimalLaws
+pub mod Unique

@@ -5,3 +5,4 @@ pub mod Field
 pub mod Lay
 pub mod Whole
 pub mod Decimal
+pub mod Answers

@@ -1,9 +1,9 @@
--- Each public promise admits one outcome: two answers that meet it are the same.
+-- Each public promise admits one outcome: two answers that meet it are the same. `write` promises `Laid`: `laid-once` of frame.
 -- Assumes nothing.
-use mathlib.Core.Path.{_≡_, sym, _∙_}
+use mathlib.Core.Path.{_≡_}
 use mathlib.Core.List.{List}
 use Prim.Native.Nat.{ℕ}
-use Rattle.frame.specs.Lay.{Laid}
+use Rattle.frame.proofs.Unique.{once}
 use Rattle.unit.specs.declared.Unit.{Unit}
 use Rattle.segment.specs.Unaligned.{unalignedAt}
 use Rattle.segment.specs.Part.{placedAt, plainAt, partLength}
@@ -11,22 +11,14 @@ use Rattle.segment.specs.declared.unaligned.UnalignedBlock.{UnalignedBlo
 use Rattle.segment.specs.declared.part.Part.{Part}
 use Rattle.segment.specs.declared.part.PartRead.{PartRead}
 
--- an answer that equals a definition
-one : {A : Type 0} {x y spec : A} → x ≡ spec → y ≡ spec → x ≡ y
-one p q = p ∙ sym q
-
 pub read-unaligned-block-once : (alphabet : ℕ) (frame : List ℕ) (at : ℕ) {x y : UnalignedBlock} → x ≡ unalignedAt alphabet frame at → y ≡ unalignedAt alphabet frame at → x ≡ y
-read-unaligned-block-once alphabet frame at p q = one p q
+read-unaligned-block-once alphabet frame at p q = once p q
 
 pub read-aligned-once : (u : Unit) (reference frame : List ℕ) (position at : ℕ) {x y : PartRead} → x ≡ placedAt u reference frame position at → y ≡ placedAt u reference frame position at → x ≡ y
-read-aligned-once u reference frame position at p q = one p q
+read-aligned-once u reference frame position at p q = once p q
 
 pub read-unaligned-once : (u : Unit) (frame : List ℕ) (at : ℕ) {x y : PartRead} → x ≡ plainAt u frame at → y ≡ plainAt u frame at → x ≡ y
-read-unaligned-once u frame at p q = one p q
+read-unaligned-once u frame at p q = once p q
 
 pub bytes-once : (p : Part) {x y : ℕ} → x ≡ partLength p → y ≡ partLength p → x ≡ y
-bytes-once p e f = one e f
-
--- a writer's answer and the lent line
-pub write-once : (before : List ℕ) (at : ℕ) (bs : List ℕ) {after after′ : List ℕ} {r r′ : ℕ} → Laid before after at r bs → Laid before after′ at r′ bs → (r ≡ r′) × (after ≡ after′)
-write-once before at bs f g = (one (f .to) (g .to), one (f .holds) (g .holds))
+bytes-once p e f = once e f

@@ -1,0 +1,46 @@
+-- Each public promise admits one outcome: two answers that meet it are the same.
+-- Assumes nothing.
+use mathlib.Core.Path.{_≡_, sym, _∙_}
+use mathlib.Core.List.{List}
+use Prim.Native.Nat.{ℕ}
+use lib.ListN.{length, getD}
+use Rattle.frame.specs.Hex.{unhex}
+use Rattle.frame.specs.Line.{lineWithin}
+use Rattle.frame.specs.Next.{nextLine}
+use Rattle.frame.specs.Field.{fieldAt}
+use Rattle.frame.specs.Decimal.{decimal}
+use Rattle.frame.specs.Lay.{Laid}
+use Rattle.frame.specs.Whole.{wroteOf, lineInto}
+use Rattle.frame.specs.declared.line.Line.{Line}
+use Rattle.frame.specs.declared.line.Next.{Next}
+use Rattle.frame.specs.declared.field.Field.{Field}
+use Rattle.frame.specs.declared.lay.Wrote.{Wrote}
+
+-- an answer that equals a definition: every promise below is an instance, and the crates above cite it too
+pub once : {A : Type 0} {x y spec : A} → x ≡ spec → y ≡ spec → x ≡ y
+once p q = p ∙ sym q
+
+-- `line_within`, and `line_of` at the input limit
+pub line-once : (most : ℕ) (s : List ℕ) {x y : Line} → x ≡ lineWithin most s → y ≡ lineWithin most s → x ≡ y
+line-once most s p q = once p q
+
+pub next-line-once : (s : List ℕ) {x y : Next} → x ≡ nextLine s → y ≡ nextLine s → x ≡ y
+next-line-once s p q = once p q
+
+pub byte-at-once : (l : List ℕ) (i : ℕ) {x y : ℕ} → x ≡ getD (unhex l) i 0 → y ≡ getD (unhex l) i 0 → x ≡ y
+byte-at-once l i p q = once p q
+
+-- `read_u8`, `read_u16`, `read_u32`: for every width
+pub field-once : (k : ℕ) (l : List ℕ) (at : ℕ) {x y : Field} → x ≡ fieldAt k (unhex l) at → y ≡ fieldAt k (unhex l) at → x ≡ y
+field-once k l at p q = once p q
+
+pub decimal-len-once : (n : ℕ) {x y : ℕ} → x ≡ length (decimal n) → y ≡ length (decimal n) → x ≡ y
+decimal-len-once n p q = once p q
+
+-- every writer that promises `Laid`: the place that it answers and the lent line
+pub laid-once : (before : List ℕ) (at : ℕ) (bs : List ℕ) {after after′ : List ℕ} {r r′ : ℕ} → Laid before after at r bs → Laid before after′ at r′ bs → (r ≡ r′) × (after ≡ after′)
+laid-once before at bs f g = (once (f .to) (g .to), once (f .holds) (g .holds))
+
+-- `write_line`: the answer and the lent output
+pub write-line-once : (s bs : List ℕ) {x y : Wrote} {after after′ : List ℕ} → x ≡ wroteOf s bs → y ≡ wroteOf s bs → after ≡ lineInto s bs → after′ ≡ lineInto s bs → (x ≡ y) × (after ≡ after′)
+write-line-once s bs p q f g = (once p q, once f g)
