@@ -1,4 +1,4 @@
--- The laws of a part that was accepted: it is ready to be written, and its bytes are as many as `partLength` says.
+-- The laws of a part that was accepted: it is ready to be written, its bytes are as many as `partLength` says, and that is at most `mostPart`.
 -- Assumes nothing.
 use mathlib.Core.Path.{_≡_, refl, sym, ap, _∙_}
 use mathlib.Core.Bool.{cond}
@@ -7,7 +7,7 @@ use Prim.Native.Nat.{ℕ, _+_, _*_, _<_, _≤_}
 use native.Mathlib.Omega.{arith}
 use borrow.Author.Tests.{eqb-true}
 use lib.Dec.{eqb}
-use lib.ListN.{length, length-append}
+use lib.ListN.{length, getD, length-append}
 use Rattle.refusal.specs.Numbers.{fine}
 use Rattle.frame.specs.Hex.{be}
 use Rattle.frame.specs.declared.field.Cursor.{Cursor}
@@ -17,6 +17,7 @@ use Rattle.block.specs.Segment.{mostRead, mostEdits, mostEcigar, softBases, map
 use Rattle.bases.specs.Bases.{basesText}
 use Rattle.bases.specs.Alignment.{Acceptable}
 use Rattle.bases.proofs.ReadLaws.{read-length}
+use Rattle.ecigar.proofs.OperationLaws.{ecigar-most}
 use Rattle.segment.specs.Checked.{lengthAt, afterChecked}
 use Rattle.segment.specs.Symbols.{symbolsFrom}
 use Rattle.segment.specs.Aligned.{alignedAt}
@@ -40,10 +41,15 @@ use Rattle.segment.proofs.PlaceLaws.{Inside, place-inside}
 use Rattle.segment.proofs.ReadyLaws.{ReadyBlock, block-ready, length-got, symbols-got}
 use Rattle.segment.proofs.WriteLaws.{length-letters}
 
+-- the most bytes that list a segment: the fixed ones, the longest read and the longest E-CIGAR
+abbrev pub mostPart : ℕ
+mostPart = fixedBytes + mostRead + mostEcigar
+
 -- what is known of a part that was accepted, and of the place behind its block
 pub record Taken (u : Unit) (reference frame : List ℕ) (p : Part) (next : ℕ) : Type 0 where
   pub ready : Ready u frame p
   pub long : length (partBytes u reference frame p) ≡ partLength p
+  pub most : partLength p ≤ mostPart
   pub inside : next ≤ length frame
 
 -- ---- an aligned segment
@@ -55,6 +61,11 @@ aligned-long u reference frame position a r =
     let fit : Acceptable (u .class) (u .alphabet) frame (a .segment) = record { clips = omega (arith, r .soft); edits = r .sound } in
     simp (length-append, length-be)
     (omega (arith, r .text, read-length (u .class) (u .alphabet) frame reference (u .first) position (a .segment) fit))
+
+aligned-most : (u : Unit) (frame : List ℕ) (position : ℕ) (a : AlignedOf) → ReadyBlock (u .class) (u .alphabet) frame a → partLength (placedPart position a) ≤ mostPart
+unfolding partLength
+aligned-most u frame position a r =
+    omega (arith, r .text, r .most, ecigar-most (u .class) (u .alphabet) frame (a .segment) (r .few) (r .most) (r .fit) (r .sound))
 
 aligned-taken : (u : Unit) (reference frame : List ℕ) (position : ℕ) (a : AlignedOf) (p : Part) (next : Cursor) → ReadyBlock (u .class) (u .alphabet) frame a
     → placed u reference frame position a ≡ Whole p next → Taken u reference frame p (next .at)
@@ -70,18 +81,19 @@ aligned-taken u reference frame position a p next r q =
     record {
       ready = record { few = r .few; framed = r .framed; sound = r .sound; text = r .text };
       long = aligned-long u reference frame position a r;
+      most = aligned-most u frame position a r;
       inside = r .inside;
     })
     (λ t. absurd (let w = simp (s, t) at q in let z : _≡_ {A = ℕ} 0 1 = cc in omega arith)))
     (λ s. absurd (let w = simp s at q in let z : _≡_ {A = ℕ} 0 1 = cc in omega arith))
 
-pub placed-taken : (u : Unit) (reference frame : List ℕ) (position at : ℕ) (p : Part) (next : Cursor) → placedAt u reference frame position at ≡ Whole p next → Taken u reference frame p (next .at)
+pub placed-taken : (u : Unit) (reference frame : List ℕ) (position at : ℕ) (p : Part) (next : Cursor) → ((i : ℕ) → getD frame i 0 < 256) → placedAt u reference frame position at ≡ Whole p next → Taken u reference frame p (next .at)
 unfolding placedAt
-placed-taken u reference frame position at p next q = by (alignedAt (u .class) (u .alphabet) frame at) refl q
+placed-taken u reference frame position at p next bytes q = by (alignedAt (u .class) (u .alphabet) frame at) refl q
   where
     by : (x : AlignedBlock) → alignedAt (u .class) (u .alphabet) frame at ≡ x → afterBlock u reference frame position x ≡ Whole p next → Taken u reference frame p (next .at)
     by (aligned.Refused n) e z = absurd (let y : _≡_ {A = ℕ} 0 1 = cc in omega arith)
-    by (aligned.Whole a) e z = aligned-taken u reference frame position a p next (block-ready (u .class) (u .alphabet) frame a at e) z
+    by (aligned.Whole a) e z = aligned-taken u reference frame position a p next (block-ready (u .class) (u .alphabet) frame bytes a at e) z
 
 -- ---- an unaligned segment
 
@@ -113,6 +125,10 @@ plain-ready alphabet frame at s q =
     let m : _≡_ {A = UnalignedOf} s (record { length = v; at = c .at; next = next }) = cc in
     rw m record { most = g .below; framed = h .1; inside = omega (arith, h .0, h .1) }))
 
+plain-most : (frame : List ℕ) (s : UnalignedOf) → PlainBlock frame s → partLength (Unaligned s) ≤ mostPart
+unfolding partLength
+plain-most frame s g = omega (arith, g .most)
+
 pub plain-taken : (u : Unit) (reference frame : List ℕ) (at : ℕ) (p : Part) (next : Cursor) → plainAt u frame at ≡ Whole p next → Taken u reference frame p (next .at)
 unfolding plainAt
 plain-taken u reference frame at p next q = by (unalignedAt (u .alphabet) frame at) refl q
@@ -123,4 +139,4 @@ plain-taken u reference frame at p next q = by (unalignedAt (u .alphabet) frame 
         let g = plain-ready (u .alphabet) frame at s e in
         let i : p ≡ Unaligned s = cc in
         let n : next .at ≡ s .next .at = ap (λ (c : Cursor). c .at) (cc) in
-        rw (i, n) record { ready = record { framed = g .framed }; long = plain-long u reference frame s; inside = g .inside }
+        rw (i, n) record { ready = record { framed = g .framed }; long = plain-long u reference frame s; most = plain-most frame s g; inside = g .inside }

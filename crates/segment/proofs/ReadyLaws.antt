@@ -6,12 +6,13 @@ use mathlib.Core.List.{List}
 use Prim.Native.Nat.{ℕ, zero, suc, _+_, _*_, _<_, _≤_}
 use native.Mathlib.Omega.{arith}
 use borrow.Author.Tests.{leb-false, ltb-true, eqb-true}
-use lib.Dec.{ltb, leb, eqb}
+use lib.Dec.{ltb, leb, eqb, lit<}
 use lib.ListN.{length, getD}
 use Rattle.refusal.specs.Numbers.{fine, misframed}
 use Rattle.frame.specs.Field.{fieldAt, bigAt, afterField}
 use Rattle.frame.specs.declared.field.Cursor.{Cursor}
 use Rattle.frame.proofs.HexLaws.{by-test}
+use Rattle.frame.proofs.FieldLaws.{bigAt-lt}
 use Rattle.unit.specs.declared.Unit.{Unit}
 use Rattle.unit.specs.Unit.{classP, classI}
 use Rattle.unit.specs.Table35.{sizeOf}
@@ -26,6 +27,7 @@ use Rattle.ecigar.specs.declared.check.Checked.{Checked as EditsChecked}
 use Rattle.ecigar.specs.declared.check.Checked.the-variants as edits
 use Rattle.ecigar.proofs.CheckLaws.{checked-fine}
 use Rattle.ecigar.proofs.TextLaws.{checked-length}
+use Rattle.ecigar.proofs.OperationLaws.{ClipsFit}
 use Rattle.segment.specs.Checked.{lengthIn, lengthAt, rcompIn, rcompAt, countIn, countAt, afterChecked}
 use Rattle.segment.specs.Clips.{clipsOf, clipsIn, clipsAt}
 use Rattle.segment.specs.Symbols.{symbolsFrom}
@@ -109,12 +111,38 @@ clips-got frame readLength at c next q =
     let p : next .at ≡ at + 2 + 2 + 2 + 2 = cc in
     record { soft = rw i (leb-false readLength (softBases whole) t); place = omega arith; inside = omega (arith, f .fits) })
 
+-- clips of 16 bits, in a frame of bytes
+pub clips-fit : (frame : List ℕ) (readLength at : ℕ) (c : Clips) (next : Cursor) → ((i : ℕ) → getD frame i 0 < 256) → clipsAt frame readLength at ≡ clips.Whole c next → ClipsFit c
+unfolding clipsAt clipsIn
+clips-fit frame readLength at c next bytes q =
+    let never : (n : ℕ) → clips.Refused n ≡ clips.Whole c next → ⊥ = λ n e. (let z : _≡_ {A = ℕ} 0 1 = cc in omega arith) in
+    let a = past-field _ (never misframed) 2 frame at _ q in
+    let b = past-field _ (never misframed) 2 frame (at + 2) _ (a .rest) in
+    let d = past-field _ (never misframed) 2 frame (at + 2 + 2) _ (b .rest) in
+    let f = past-field _ (never misframed) 2 frame (at + 2 + 2 + 2) _ (d .rest) in
+    let whole = clipsOf (bigAt 2 frame at) (bigAt 2 frame (at + 2)) (bigAt 2 frame (at + 2 + 2)) (bigAt 2 frame (at + 2 + 2 + 2)) in
+    by-test (leb readLength (softBases whole)) (λ t. absurd (never 9 (simp t at (f .rest))))
+    (λ t.
+    let e = simp t at (f .rest) in
+    let i : c ≡ whole = cc in
+    rw i
+    record {
+      left-soft = bigAt-lt 2 frame at bytes;
+      left-hard = bigAt-lt 2 frame (at + 2) bytes;
+      right-soft = bigAt-lt 2 frame (at + 2 + 2) bytes;
+      right-hard = bigAt-lt 2 frame (at + 2 + 2 + 2) bytes;
+    })
+
+none-fit : ClipsFit noClips
+none-fit = record { left-soft = lit< tt; left-hard = lit< tt; right-soft = lit< tt; right-hard = lit< tt }
+
 -- ---- an aligned block that is accepted
 
 pub record ReadyBlock (class alphabet : ℕ) (frame : List ℕ) (a : Aligned) : Type 0 where
   pub least : 1 ≤ a .segment .length
   pub most : a .segment .length ≤ mostRead
   pub soft : softBases (a .segment .clips) < a .segment .length
+  pub fit : ClipsFit (a .segment .clips)
   pub few : a .segment .edits ≤ mostEdits
   pub framed : a .segment .«edits_at» + a .segment .edits * widthOf class ≤ length frame
   pub sound : Sound (mappedLength (a .segment .length) (a .segment .clips)) (sizeOf alphabet) 0 (segmentEdits class alphabet frame (a .segment))
@@ -123,9 +151,9 @@ pub record ReadyBlock (class alphabet : ℕ) (frame : List ℕ) (a : Aligned) : 
 
 -- the edits, where the block's other fields are accepted
 pub tallied-ready : (class alphabet : ℕ) (frame : List ℕ) (s : Segment) (a : Aligned) → tallied class alphabet frame s ≡ Whole a
-    → 1 ≤ s .length → s .length ≤ mostRead → softBases (s .clips) < s .length → s .«edits_at» ≤ length frame → ReadyBlock class alphabet frame a
+    → 1 ≤ s .length → s .length ≤ mostRead → softBases (s .clips) < s .length → ClipsFit (s .clips) → s .«edits_at» ≤ length frame → ReadyBlock class alphabet frame a
 unfolding tallied
-tallied-ready class alphabet frame s a q one most soft inside =
+tallied-ready class alphabet frame s a q one most soft fit inside =
     by (checkOf class alphabet frame (s .«edits_at») (s .edits) (mappedLength (s .length) (s .clips))) refl q
   where
     by : (x : EditsChecked) → checkOf class alphabet frame (s .«edits_at») (s .edits) (mappedLength (s .length) (s .clips)) ≡ x → afterEdits class s x ≡ Whole a → ReadyBlock class alphabet frame a
@@ -141,6 +169,7 @@ tallied-ready class alphabet frame s a q one most soft inside =
           least = one;
           most = most;
           soft = soft;
+          fit = fit;
           few = f .few;
           framed = f .framed inside;
           sound = f .sound;
@@ -155,38 +184,38 @@ checked-whole : (x : Checked) (f : ℕ → Cursor → AlignedBlock) (a : Aligned
 checked-whole (field.Value v c) f a q go = go v c refl q
 checked-whole (field.Refused n) f a q go = absurd (let z : _≡_ {A = ℕ} 0 1 = cc in omega arith)
 
-module _ (class alphabet : ℕ) (frame : List ℕ) (a : Aligned) where
+module _ (class alphabet : ℕ) (frame : List ℕ) (bytes : (i : ℕ) → getD frame i 0 < 256) (a : Aligned) where
   edits-ready : (readLength rcomp : ℕ) (c : Clips) (softAt at : ℕ) → fromEdits class alphabet frame readLength rcomp c softAt at ≡ Whole a
-      → 1 ≤ readLength → readLength ≤ mostRead → softBases c < readLength → at ≤ length frame → ReadyBlock class alphabet frame a
+      → 1 ≤ readLength → readLength ≤ mostRead → softBases c < readLength → ClipsFit c → at ≤ length frame → ReadyBlock class alphabet frame a
   unfolding fromEdits
-  edits-ready readLength rcomp c softAt at q one most soft inside =
+  edits-ready readLength rcomp c softAt at q one most soft fit inside =
       by-test (eqb class classP)
-      (λ t. tallied-ready class alphabet frame (segmentOf readLength rcomp c softAt 0 at) a (simp t at q) one most soft inside)
+      (λ t. tallied-ready class alphabet frame (segmentOf readLength rcomp c softAt 0 at) a (simp t at q) one most soft fit inside)
       (λ t. checked-whole (countAt frame at) _ a (simp t at q)
-      (λ v next e r. tallied-ready class alphabet frame (segmentOf readLength rcomp c softAt v (next .at)) a r one most soft (count-got frame at v next e .inside)))
+      (λ v next e r. tallied-ready class alphabet frame (segmentOf readLength rcomp c softAt v (next .at)) a r one most soft fit (count-got frame at v next e .inside)))
 
   soft-ready : (readLength rcomp : ℕ) (c : Clips) (at : ℕ) → fromSoft class alphabet frame readLength rcomp c at ≡ Whole a
-      → 1 ≤ readLength → readLength ≤ mostRead → softBases c < readLength → at ≤ length frame → ReadyBlock class alphabet frame a
+      → 1 ≤ readLength → readLength ≤ mostRead → softBases c < readLength → ClipsFit c → at ≤ length frame → ReadyBlock class alphabet frame a
   unfolding fromSoft
-  soft-ready readLength rcomp c at q one most soft inside =
+  soft-ready readLength rcomp c at q one most soft fit inside =
       checked-whole (symbolsFrom alphabet frame (softBases c) (softBases c) at) _ a q
       (λ v next e r.
       let g = symbols-got alphabet frame (softBases c) (softBases c) at v next e inside in
-      edits-ready readLength rcomp c at (next .at) r one most soft (omega (arith, g .0, g .1)))
+      edits-ready readLength rcomp c at (next .at) r one most soft fit (omega (arith, g .0, g .1)))
 
   clips-ready : (readLength rcomp at : ℕ) → fromClips class alphabet frame readLength rcomp at ≡ Whole a
       → 1 ≤ readLength → readLength ≤ mostRead → at ≤ length frame → ReadyBlock class alphabet frame a
   unfolding fromClips
   clips-ready readLength rcomp at q one most inside =
       by-test (ltb class classI)
-      (λ t. edits-ready readLength rcomp noClips at at (simp t at q) one most (omega arith) inside)
+      (λ t. edits-ready readLength rcomp noClips at at (simp t at q) one most (omega arith) none-fit inside)
       (λ t. by (clipsAt frame readLength at) refl (simp t at q))
     where
       by : (x : Clipped) → clipsAt frame readLength at ≡ x → afterClips class alphabet frame readLength rcomp x ≡ Whole a → ReadyBlock class alphabet frame a
       by (clips.Refused n) e z = absurd (let y : _≡_ {A = ℕ} 0 1 = cc in omega arith)
       by (clips.Whole c next) e z =
           let g = clips-got frame readLength at c next e in
-          soft-ready readLength rcomp c (next .at) z one most (g .soft) (g .inside)
+          soft-ready readLength rcomp c (next .at) z one most (g .soft) (clips-fit frame readLength at c next bytes e) (g .inside)
 
   pub block-ready : (at : ℕ) → alignedAt class alphabet frame at ≡ Whole a → ReadyBlock class alphabet frame a
   unfolding alignedAt fromRcomp

@@ -1,5 +1,6 @@
 -- `probe::segment_call::probe_segment` meets its contract: what was read is `Able`, by the laws of parts. Assumes nothing.
 use mathlib.Core.Path.{refl, sym, _∙_}
+use Rattle.frame.proofs.HexLaws.{byte-lt}
 use Rattle.segment.proofs.PartLaws.{placed-taken, plain-taken}
 use Rattle.probe.specs.SegmentCall.{segmentCall}
 use borrow.Author.Tests.{eq-eqb, ne-eqb}
@@ -11,7 +12,7 @@ read-aligned-requires : tie.Need-read-aligned-requires
 read-aligned-requires c κs = search needs
 
 settle-requires : tie.Need-settle-requires
-settle-requires c κs = λ p next e. let t = placed-taken _ _ _ _ _ p next (sym (c .before .read-aligned .ensures) ∙ e) in record { ready = t .ready; long = t .long }
+settle-requires c κs = λ p next e. let t = placed-taken _ _ _ _ _ p next (byte-lt _) (sym (c .before .read-aligned .ensures) ∙ e) in record { ready = t .ready; long = t .long }
 
 same-length : tie.Need-same-length
 same-length c = search needs
