@@ -11,7 +11,8 @@ use Rattle.frame.specs.Hex.{unhex}
 use Rattle.frame.specs.Field.{bigAt}
 use Rattle.unit.specs.Kinds.{kindRefused, kindDone}
 use Rattle.listing.specs.Lines.{linesOf, joined, kept}
-use Rattle.listing.specs.Record.{mostListed, Setup, Lawful, numberPlace}
+use Rattle.unit.specs.Listed.{mostListed, numberPlace}
+use Rattle.listing.specs.Record.{Setup, Lawful}
 use Rattle.listing.specs.Listing.{Front, ready, line05, firstOf, listing, LawfulFront}
 use Rattle.listing.specs.Resuming.{bytes05, bytes06, stateAt, nothing, edges, edgesFrom, countOf, countsOf, place, ListedLine, ClosingLine, Continues, placeBy, add, refuse, skip, onSkip, supply, edgesIn, supplied, printed, noRecord, resumed, torn, resumedAgain}
 use Rattle.listing.specs.Turn.{run}

@@ -22,7 +22,7 @@ use Rattle.frame.proofs.LineLaws.{lineOfBytes, unhex-line, line-is-frame, frame
 use Rattle.unit.specs.State.{subsequences}
 use Rattle.unit.specs.declared.State.{State}
 use Rattle.unit.specs.Kinds.{kindListed, kindRefused, kindDone}
-use Rattle.listing.specs.Record.{mostListed, leastListed, numberPlace, indexPlace}
+use Rattle.unit.specs.Listed.{mostListed, leastListed, numberPlace, indexPlace}
 use Rattle.listing.specs.Listing.{line05, line06}
 use Rattle.listing.specs.Resuming.{Last, goOn, whole, bad, bytes05, bytes06, wordsAt, stateAt, within, listedLast, frameLast, ifFrame, lastOf, ListedLine, ClosingLine}
 

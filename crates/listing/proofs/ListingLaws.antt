@@ -19,7 +19,8 @@ use Rattle.unit.specs.State.{subsequences, freshState}
 use Rattle.unit.specs.declared.State.{State}
 use Rattle.unit.specs.Kinds.{kindListed, kindRefused, kindDone}
 use Rattle.listing.specs.Lines.{linesOf, joined, same}
-use Rattle.listing.specs.Record.{mostListed, headOf, words, Step, refused, accepted, Setup, Accepted, FirstLine, Lawful}
+use Rattle.unit.specs.Listed.{mostListed, headOf, words, Step, refused, accepted}
+use Rattle.listing.specs.Record.{Setup, Accepted, FirstLine, Lawful}
 use Rattle.listing.specs.Listing.{Front, alone, unpaired, ready, frame05, line05, frame06, line06, lastLine, onStep, records, firstOf, restOf, listed, listing, LawfulFront, onAccepted, stateBehind, Each, none, one, ListingLine, Numbered, Finished}
 use Rattle.listing.specs.Resuming.{lastFrom, bytes05, bytes06, ClosingLine, Closes}
 use Rattle.listing.proofs.LinesLaws.{same-true, whole-bytes, whole-frame, lines-line}

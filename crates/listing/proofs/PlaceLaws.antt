@@ -17,7 +17,8 @@ use Rattle.unit.specs.State.{subsequences}
 use Rattle.unit.specs.declared.State.{State}
 use Rattle.unit.specs.Kinds.{kindUnit, kindRefused, kindDone}
 use Rattle.listing.specs.Lines.{joined, same}
-use Rattle.listing.specs.Record.{mostListed, Setup, Lawful, numberPlace, indexPlace}
+use Rattle.unit.specs.Listed.{mostListed, numberPlace, indexPlace}
+use Rattle.listing.specs.Record.{Setup, Lawful}
 use Rattle.listing.specs.Listing.{Front, alone, unpaired, ready, line05, firstOf, restOf, listing, LawfulFront}
 use Rattle.listing.specs.Resuming.{Last, goOn, whole, bad, bytes05, bytes06, stateAt, lastOf, nothing, edges, edgesFrom, onLast, placeBy, countOf, countsOf, place, ListedLine, ClosingLine, Continues, isFirst, isListed, isRefused, isDone, add, refuse, skip, onSkip, from, added, supply}
 use Rattle.listing.specs.Last.{saidOf, barePlaced, placedOf}

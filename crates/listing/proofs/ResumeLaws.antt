@@ -20,7 +20,8 @@ use Rattle.unit.specs.State.{subsequences, freshState}
 use Rattle.unit.specs.declared.State.{State}
 use Rattle.unit.specs.Kinds.{kindUnit, kindListed, kindRefused, kindDone}
 use Rattle.listing.specs.Lines.{linesOf, joined, ends, kept, WholeLine, same}
-use Rattle.listing.specs.Record.{headOf, Step, refused, accepted, Setup, Accepted, FirstLine, Lawful, numberPlace}
+use Rattle.unit.specs.Listed.{headOf, Step, refused, accepted, numberPlace}
+use Rattle.listing.specs.Record.{Setup, Accepted, FirstLine, Lawful}
 use Rattle.listing.specs.Listing.{Front, alone, unpaired, ready, line05, line06, lastLine, onStep, records, firstOf, restOf, listing, LawfulFront}
 use Rattle.listing.specs.Resuming.{goOn, stateAt, lastOf, lastFrom, edgesOf, second, onLast, countOf, countsOf, place, Answer, add, skip, from, added, supply, supplied, resumed, torn, resumedAgain}
 use Rattle.listing.proofs.LinesLaws.{same-refl, same-false, whole-bytes, whole-frame, whole-ends, lines-line, kept-zeros, Cut, inside, beyond, kept-cut}

@@ -19,7 +19,8 @@ use Rattle.unit.specs.State.{subsequences}
 use Rattle.unit.specs.declared.State.{State}
 use Rattle.unit.specs.Kinds.{kindUnit}
 use Rattle.listing.specs.Lines.{pushByte, linesOf, joined, ends, keptWith, kept, same}
-use Rattle.listing.specs.Record.{Step, refused, accepted, Setup, words, headOf, Accepted, FirstLine, Lawful}
+use Rattle.unit.specs.Listed.{Step, refused, accepted, words, headOf}
+use Rattle.listing.specs.Record.{Setup, Accepted, FirstLine, Lawful}
 use Rattle.listing.proofs.ResumeLaws.{first-line}
 use Rattle.listing.proofs.WordLaws.{bytes-append, bytes-head, length-head}
 use Rattle.listing.specs.Listing.{Front, ready, line05, lastLine, records, firstOf, restOf, listing}

@@ -10,7 +10,8 @@ use Rattle.frame.proofs.LineLaws.{lineOfBytes}
 use Rattle.unit.specs.State.{subsequences, freshState}
 use Rattle.unit.specs.declared.State.{State}
 use Rattle.listing.specs.Lines.{joined}
-use Rattle.listing.specs.Record.{Step, refused, accepted, Setup, Accepted, Lawful}
+use Rattle.unit.specs.Listed.{Step, refused, accepted}
+use Rattle.listing.specs.Record.{Setup, Accepted, Lawful}
 use Rattle.listing.specs.Listing.{ready, line05, lastLine, onStep, records, restOf}
 use Rattle.listing.specs.Turn.{turn, stepTurn, onTurn, run}
 

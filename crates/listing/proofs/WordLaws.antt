@@ -12,7 +12,7 @@ use Rattle.frame.proofs.FieldLaws.{field-back}
 use Rattle.unit.specs.State.{subsequences}
 use Rattle.unit.specs.declared.State.{State}
 use Rattle.unit.specs.Kinds.{kindListed}
-use Rattle.listing.specs.Record.{words, headOf}
+use Rattle.unit.specs.Listed.{words, headOf}
 use Rattle.listing.specs.Resuming.{wordsAt, stateAt}
 
 -- ---- bytes one after the other

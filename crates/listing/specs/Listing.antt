@@ -15,7 +15,8 @@ use Rattle.unit.specs.State.{freshState}
 use Rattle.unit.specs.declared.State.{State}
 use Rattle.unit.specs.Kinds.{kindListed, kindRefused, kindDone}
 use Rattle.listing.specs.Lines.{joined, WholeLine, same}
-use Rattle.listing.specs.Record.{mostListed, numberPlace, Step, refused, accepted, Setup, FirstLine, Lawful}
+use Rattle.unit.specs.Listed.{mostListed, numberPlace, Step, refused, accepted}
+use Rattle.listing.specs.Record.{Setup, FirstLine, Lawful}
 
 -- how far the front of the two files can be read
 pub data Front : Type 0 where

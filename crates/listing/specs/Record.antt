@@ -2,29 +2,17 @@
 -- Assumes nothing.
 use Prim.Native.Nat.{ℕ, _+_, _*_, _<_, _≤_}
 use mathlib.Core.Path.{_≡_}
-use mathlib.Core.List.{List, [], _∷_, _++_}
+use mathlib.Core.List.{List, _++_}
 use lib.ListN.{length, getD}
 use Rattle.refusal.specs.Numbers.{noRoom}
-use Rattle.frame.specs.Hex.{Bytes, unhex, be}
+use Rattle.frame.specs.Hex.{Bytes, unhex}
 use Rattle.frame.specs.Line.{lineOf}
 use Rattle.frame.specs.declared.line.Line.the-variants.{Frame}
 use Rattle.unit.specs.Unit.{mostRecords}
 use Rattle.unit.specs.State.{subsequences, mostSymbols}
 use Rattle.unit.specs.declared.State.{State}
-use Rattle.unit.specs.Kinds.{kindUnit, kindListed}
-
--- The listing: the most digits of a listing line; with its 0A an 04 line needs no more than one byte more
-abbrev pub mostListed : ℕ
-mostListed = 20148
-
--- Resuming: the fewest bytes of an 04 line, those before its segments
-abbrev pub leastListed : ℕ
-leastListed = 28
-
--- what a record call answers: a refusal number, or the 04 line's bytes and the next state
-pub data Step : Type 0 where
-  refused : ℕ → Step
-  accepted : List ℕ → State → Step
+use Rattle.unit.specs.Kinds.{kindUnit}
+use Rattle.unit.specs.Listed.{mostListed, leastListed, headOf, Step, refused, accepted}
 
 -- a unit whose unit line, pair lines and reference are all accepted
 pub record Setup : Type 0 where
@@ -37,23 +25,6 @@ pub record Setup : Type 0 where
   pub step : State → List ℕ → Step
   -- the lines of the unit file behind the pair lines
   pub lines : List (List ℕ)
-
--- numbers as u16 each
-unfoldable pub words : List ℕ → List ℕ
-words [] = []
-words (x ∷ xs) = be 2 x ++ words xs
-
--- The listing: an 04 line begins with its kind, the record number u16 and "the eight pair indexes after this record u16 each"
-unfoldable pub headOf : ℕ → State → List ℕ
-headOf number next = be 1 kindListed ++ be 2 number ++ words (next .index)
-
--- where the head has the record number
-abbrev pub numberPlace : ℕ
-numberPlace = 1
-
--- and its first index
-abbrev pub indexPlace : ℕ
-indexPlace = 3
 
 -- what an accepted call says: the line is well formed; its 04 line carries this record's number and the indexes after it, which the unit allows; the next state is the next record's
 pub record Accepted (E : Setup) (s : State) (line frame : List ℕ) (next : State) : Type 0 where

@@ -18,7 +18,8 @@ use Rattle.unit.specs.State.{subsequences}
 use Rattle.unit.specs.declared.State.{State}
 use Rattle.unit.specs.Kinds.{kindListed, kindRefused, kindDone}
 use Rattle.listing.specs.Lines.{linesOf, joined, ends, kept, same}
-use Rattle.listing.specs.Record.{mostListed, leastListed, numberPlace, indexPlace, Setup}
+use Rattle.unit.specs.Listed.{mostListed, leastListed, numberPlace, indexPlace}
+use Rattle.listing.specs.Record.{Setup}
 use Rattle.listing.specs.Listing.{Front, alone, unpaired, ready, line05, records, firstOf, restOf, listing}
 
 -- ---- the last kept line

@@ -8,7 +8,8 @@ use lib.Dec.{ltb}
 use Rattle.refusal.specs.Numbers.{missing}
 use Rattle.frame.proofs.LineLaws.{lineOfBytes}
 use Rattle.unit.specs.declared.State.{State}
-use Rattle.listing.specs.Record.{Step, refused, accepted, Setup}
+use Rattle.unit.specs.Listed.{Step, refused, accepted}
+use Rattle.listing.specs.Record.{Setup}
 use Rattle.listing.specs.Listing.{line05, lastLine}
 
 -- print these bytes and go on from this state; or print these bytes and stop

@@ -4,12 +4,13 @@ use frame::line::Line;
 use frame::line::line_within;
 use unit::State;
 use unit::kind::Kind;
+use unit::listed::ListedLine;
 ghost use mathlib.Core.Path.{_≡_};
 ghost use Prim.Native.Nat.{_+_, _*_, _<_, _≤_};
 ghost use lib.ListN.{length};
 ghost use Rattle.frame.specs.Hex.{unhex};
 ghost use Rattle.frame.specs.Field.{bigAt};
-ghost use Rattle.listing.specs.Record.{leastListed};
+ghost use Rattle.unit.specs.Listed.{leastListed};
 ghost use Rattle.listing.specs.Resuming.{within as withinOf, stateAt, listedLast, frameLast, lastOf};
 ghost use Rattle.listing.specs.Last.{bareSaid, saidOf};
 
@@ -21,24 +22,6 @@ pub enum Listed {
     Whole,
     // Nothing that can be continued.
     Bad,
-}
-
-impl Listed {
-    // The most digits of a listing line.
-    pub const DIGITS: usize = 20_148;
-
-    // The fewest bytes of an 04 line.
-    pub const LEAST: usize = 28;
-
-    // Where an 04 line has its record number, and its first index.
-    pub const NUMBER: usize = 1;
-
-    pub const INDEX: usize = 3;
-
-    // The bytes of an 05 and of an 06 line.
-    pub const BYTES_05: usize = 4;
-
-    pub const BYTES_06: usize = 3;
 }
 
 // The answer, and the state to go on from; a fresh one where there is none.
@@ -73,11 +56,11 @@ fn state_at(line: &[u8]) -> State
     requires { ⌜ 2 * leastListed ≤ length (now line) ⌝ }
     ensures { λ r. ⌜ r ≡ stateAt (unhex (now (line .entry))) ⌝ }
 {
-    let number = word_at(line, Listed::NUMBER) + 1;
+    let number = word_at(line, ListedLine::NUMBER) + 1;
     let mut index = [0u32; State::SUBSEQUENCES];
     let mut j: usize = 0;
     while j < State::SUBSEQUENCES {
-        index[j] = word_at(line, Listed::INDEX + 2 * j);
+        index[j] = word_at(line, ListedLine::INDEX + 2 * j);
         j += 1;
     }
     State { number, index }
@@ -102,10 +85,10 @@ fn listed_last(line: &[u8], bytes: usize, count: u32, counts: [u32; State::SUBSE
     requires { ⌜ bytes ≡ length (unhex (now line)) ⌝ }
     ensures { λ r. ⌜ r ≡ saidOf (listedLast count counts (unhex (now (line .entry)))) ⌝ }
 {
-    if bytes < Listed::LEAST {
+    if bytes < ListedLine::LEAST {
         return bare(Listed::Bad);
     }
-    let number = word_at(line, Listed::NUMBER);
+    let number = word_at(line, ListedLine::NUMBER);
     if count <= number {
         return bare(Listed::Bad);
     }
@@ -130,13 +113,13 @@ fn frame_last(line: &[u8], bytes: usize, count: u32, counts: [u32; State::SUBSEQ
         return listed_last(line, bytes, count, counts);
     }
     if kind == Kind::REFUSED {
-        if bytes == Listed::BYTES_05 {
+        if bytes == ListedLine::BYTES_05 {
             return bare(Listed::Whole);
         }
         return bare(Listed::Bad);
     }
     if kind == Kind::DONE {
-        if bytes == Listed::BYTES_06 {
+        if bytes == ListedLine::BYTES_06 {
             return bare(Listed::Whole);
         }
         return bare(Listed::Bad);
@@ -148,7 +131,7 @@ fn frame_last(line: &[u8], bytes: usize, count: u32, counts: [u32; State::SUBSEQ
 pub fn last_line(line: &[u8], count: u32, counts: [u32; State::SUBSEQUENCES]) -> Said
     ensures { λ r. ⌜ r ≡ saidOf (lastOf count counts (now (line .entry))) ⌝ }
 {
-    let Line::Frame(bytes) = line_within(line, Listed::DIGITS) else {
+    let Line::Frame(bytes) = line_within(line, ListedLine::DIGITS) else {
         return bare(Listed::Bad);
     };
     frame_last(line, bytes, count, counts)

@@ -100,7 +100,7 @@ fn read_state(s: &[u32]) -> State
     }
 }
 
-fn write_state(s: &mut [u32], number: u32, index: [u32; 8])
+fn write_state(s: &mut [u32], number: u32, index: [u32; State::SUBSEQUENCES])
     requires { ⌜ length (now s) ≡ stateLength ⌝ }
     ensures { λ _. ⌜ now (s .exit) ≡ number ∷ index ⌝ }
 {

@@ -1,6 +1,7 @@
 // The unit, the state carried between records, and their limits.
 pub mod alphabet;
 pub mod kind;
+pub mod listed;
 pub mod pair_line;
 pub mod reference_line;
 pub mod unit_line;
@@ -92,7 +93,7 @@ impl Unit {
 // What is carried from record to record: the next record's number, and how many symbols of each subsequence are taken.
 pub struct State {
     pub number: u32,
-    pub index: [u32; 8],
+    pub index: [u32; State::SUBSEQUENCES],
 }
 
 impl State {

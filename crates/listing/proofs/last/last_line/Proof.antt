@@ -2,7 +2,7 @@
 use mathlib.Core.Path.{sym, ap, _∙_}
 use denote.Ref.{now}
 use Rattle.frame.proofs.LineLaws.{frame-is-line}
-use Rattle.listing.specs.Record.{mostListed}
+use Rattle.unit.specs.Listed.{mostListed}
 use Rattle.listing.specs.Last.{saidOf}
 use Rattle.listing.proofs.LastLaws.{last-malformed, last-frame}
 use borrow.Author.Needs.{needs}
