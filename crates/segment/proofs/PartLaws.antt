@@ -23,7 +23,7 @@ use Rattle.segment.specs.Symbols.{symbolsFrom}
 use Rattle.segment.specs.Aligned.{alignedAt}
 use Rattle.segment.specs.Unaligned.{fromLength, unalignedAt}
 use Rattle.segment.specs.Place.{placeRefusal}
-use Rattle.segment.specs.Part.{underMatches, placedPart, placed, placedAt, afterBlock, plainAt, afterPlain, alignedBytes, unalignedBytes, partBytes, fixedBytes, partLength}
+use Rattle.segment.specs.Part.{underMatches, placedPart, placed, placedAt, afterBlock, plainAt, afterPlain, alignedBytes, unalignedBytes, partBytes, mostPart, partLength}
 use Rattle.segment.specs.Ready.{Ready, ReadyAligned, ReadyUnaligned}
 use Rattle.segment.specs.declared.checked.Checked.{Checked}
 use Rattle.segment.specs.declared.checked.Checked.the-variants as field
@@ -40,10 +40,6 @@ use Rattle.segment.specs.declared.part.PartRead.the-variants.{Whole, Ref
 use Rattle.segment.proofs.PlaceLaws.{Inside, place-inside}
 use Rattle.segment.proofs.ReadyLaws.{ReadyBlock, block-ready, length-got, symbols-got}
 use Rattle.segment.proofs.WriteLaws.{length-letters}
-
--- the most bytes that list a segment: the fixed ones, the longest read and the longest E-CIGAR
-abbrev pub mostPart : ℕ
-mostPart = fixedBytes + mostRead + mostEcigar
 
 -- what is known of a part that was accepted, and of the place behind its block
 pub record Taken (u : Unit) (reference frame : List ℕ) (p : Part) (next : ℕ) : Type 0 where

@@ -10,7 +10,7 @@ use Rattle.refusal.specs.Numbers.{fine}
 use Rattle.frame.specs.Hex.{be}
 use Rattle.unit.specs.declared.Unit.{Unit}
 use Rattle.block.specs.declared.Segment.{Segment}
-use Rattle.block.specs.Segment.{mappedLength}
+use Rattle.block.specs.Segment.{mostRead, mostEcigar, mappedLength}
 use Rattle.ecigar.specs.Ecigar.{ecigarText}
 use Rattle.bases.specs.Bases.{referenceRefusal, basesText, lettersAt}
 use Rattle.segment.specs.Aligned.{alignedAt}
@@ -89,6 +89,10 @@ partBytes u reference frame Absent = []
 -- the bytes of a listed segment besides its bases and E-CIGAR
 abbrev pub fixedBytes : ℕ
 fixedBytes = 9
+
+-- the most bytes that list a segment: the fixed ones, the longest read and the longest E-CIGAR
+abbrev pub mostPart : ℕ
+mostPart = fixedBytes + mostRead + mostEcigar
 
 -- how many bytes list it: `part-long` shows that `partBytes` has as many
 unfoldable pub partLength : Part → ℕ
