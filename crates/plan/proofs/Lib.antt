@@ -1,0 +1,8 @@
+pub mod LentLaws
+pub mod Steps
+pub mod Unique
+pub mod BytesLaws
+pub mod RefusalLaws
+pub mod StateLaws
+pub mod PlanLaws
+pub mod MateLaws

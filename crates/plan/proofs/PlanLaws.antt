@@ -1,0 +1,179 @@
+-- The laws of a record line that was accepted: it is well formed, its pair symbols gave its link and the state, and its segments are ready to be written.
+-- Assumes nothing.
+use mathlib.Core.Path.{_≡_, refl, sym, ap, _∙_}
+use mathlib.Core.List.{List}
+use Prim.Native.Nat.{ℕ, _+_, _<_}
+use native.Mathlib.Omega.{arith}
+use borrow.Author.Tests.{ltb-true}
+use lib.Dec.{ltb, eqb}
+use lib.ListN.{length, getD}
+use Rattle.refusal.specs.Numbers.{malformed, misframed, positionOut}
+use Rattle.frame.specs.Hex.{unhex}
+use Rattle.frame.specs.Line.{lineOf}
+use Rattle.frame.specs.Field.{bigAt}
+use Rattle.frame.specs.declared.line.Line.the-variants.{Frame}
+use Rattle.frame.specs.declared.field.Cursor.{Cursor}
+use Rattle.frame.proofs.HexLaws.{by-test, byte-lt}
+use Rattle.unit.specs.Kinds.{kindRecord}
+use Rattle.unit.specs.Unit.{classHM, classU, mostSegments}
+use Rattle.unit.specs.declared.Unit.{Unit}
+use Rattle.unit.specs.declared.State.{State}
+use Rattle.unit.proofs.StepLaws.{past-line, past-field, past-refusal, past-match}
+use Rattle.pairing.specs.Pairing.{pairOf}
+use Rattle.pairing.specs.declared.Answer.{Answer}
+use Rattle.pairing.specs.declared.Answer.the-variants as pair
+use Rattle.pairing.specs.declared.Link.{Link}
+use Rattle.segment.specs.Part.{partBytes, partLength}
+use Rattle.segment.specs.declared.part.Part.{Part}
+use Rattle.segment.specs.declared.part.Part.the-variants.{Absent}
+use Rattle.segment.specs.declared.part.PartRead.{PartRead}
+use Rattle.segment.specs.declared.part.PartRead.the-variants as part
+use Rattle.segment.proofs.PartLaws.{Taken, placed-taken, plain-taken}
+use Rattle.plan.specs.Plan.{plan, finished, firstPart, secondPart, afterSecond, fromSecond, afterFirst, fromFirst, fromPos, refusedReading, settled, afterAnswer, fromKind, planOf, ReadyPlan}
+use Rattle.plan.specs.declared.read.Plan.{Plan}
+use Rattle.plan.specs.declared.read.Planned.{Planned}
+use Rattle.plan.specs.declared.read.Planned.the-variants.{Whole, Refused}
+use Rattle.plan.specs.declared.read.Reading.{Reading}
+
+-- ---- the segments of an accepted record
+
+-- the second: the record has none, or its block stands behind the first
+pub data Second (u : Unit) (reference frame : List ℕ) (p : Plan) (at : ℕ) : Type 0 where
+  alone : p .link .segments < mostSegments → p .second ≡ Absent → Second u reference frame p at
+  behind : (next : Cursor) → secondPart u reference frame (p .link) (p .pos) at ≡ part.Whole (p .second) next → Second u reference frame p at
+
+-- both, from a place of the frame on
+pub record Blocks (u : Unit) (reference frame : List ℕ) (at : ℕ) (p : Plan) : Type 0 where
+  pub next : Cursor
+  pub first : firstPart u reference frame (p .pos) at ≡ part.Whole (p .first) next
+  pub second : Second u reference frame p (next .at)
+
+-- the same, of a record of this link and position
+record BlocksOf (u : Unit) (reference frame : List ℕ) (link : Link) (pos at : ℕ) (p : Plan) : Type 0 where
+  link-is : p .link ≡ link
+  pos-is : p .pos ≡ pos
+  blocks : Blocks u reference frame at p
+
+never : {n : ℕ} {p : Plan} → Refused n ≡ Whole p → ⊥
+never e = let z : _≡_ {A = ℕ} 0 1 = cc in omega arith
+
+module _ (u : Unit) (reference frame : List ℕ) (p : Plan) where
+  finished-is : (q : Plan) (at : ℕ) → finished frame q at ≡ Whole p → p ≡ q
+  unfolding finished
+  finished-is q at e = let w : Whole q ≡ Whole p = past-refusal (Refused misframed) never at (length frame) (Whole q) e .1 in cc
+
+  module _ (link : Link) (pos : ℕ) where
+    second-blocks : (first : Part) (at : ℕ) (next : Cursor) → firstPart u reference frame pos at ≡ part.Whole first next → fromSecond u reference frame link pos first (next .at) ≡ Whole p → BlocksOf u reference frame link pos at p
+    unfolding fromSecond
+    second-blocks first at next f q =
+        by-test (ltb (link .segments) mostSegments)
+        (λ t.
+        let i : p ≡ plan link pos first Absent = finished-is _ (next .at) (simp t at q) in
+        rw i record { link-is = refl; pos-is = refl; blocks = record { next = next; first = f; second = alone (ltb-true _ _ t) refl } })
+        (λ t. by (secondPart u reference frame link pos (next .at)) refl (simp t at q))
+      where
+        by : (x : PartRead) → secondPart u reference frame link pos (next .at) ≡ x → afterSecond frame link pos first x ≡ Whole p → BlocksOf u reference frame link pos at p
+        by (part.Refused n) e z = absurd (never z)
+        by (part.Whole second last) e z =
+            let i : p ≡ plan link pos first second = finished-is _ (last .at) z in
+            rw i record { link-is = refl; pos-is = refl; blocks = record { next = next; first = f; second = behind last e } }
+
+    first-blocks : (at : ℕ) → fromFirst u reference frame link pos at ≡ Whole p → BlocksOf u reference frame link pos at p
+    unfolding fromFirst
+    first-blocks at q = by (firstPart u reference frame pos at) refl q
+      where
+        by : (x : PartRead) → firstPart u reference frame pos at ≡ x → afterFirst u reference frame link pos x ≡ Whole p → BlocksOf u reference frame link pos at p
+        by (part.Refused n) e z = absurd (never z)
+        by (part.Whole first next) e z = second-blocks first at next e z
+
+  pos-blocks : (link : Link) (at : ℕ) → fromPos u reference frame link at ≡ Whole p → BlocksOf u reference frame link (bigAt 4 frame at) (at + 4) p
+  unfolding fromPos
+  pos-blocks link at q =
+      let f = past-field (Refused misframed) never 4 frame at _ q in
+      by-test (eqb (u .class) classU)
+      (λ t. first-blocks link _ (at + 4) (past-match (Refused positionOut) never (bigAt 4 frame at) 0 _ (simp t at (f .rest)) .1))
+      (λ t. first-blocks link _ (at + 4) (simp t at (f .rest)))
+
+-- ---- they are ready to be written
+
+module _ (u : Unit) (reference frame : List ℕ) (bytes : (i : ℕ) → getD frame i 0 < 256) where
+  first-taken : (pos at : ℕ) (p : Part) (next : Cursor) → firstPart u reference frame pos at ≡ part.Whole p next → Taken u reference frame p (next .at)
+  unfolding firstPart
+  first-taken pos at p next q =
+      by-test (eqb (u .class) classU) (λ t. plain-taken u reference frame at p next (simp t at q)) (λ t. placed-taken u reference frame pos at p next bytes (simp t at q))
+
+  second-taken : (link : Link) (pos at : ℕ) (p : Part) (next : Cursor) → secondPart u reference frame link pos at ≡ part.Whole p next → Taken u reference frame p (next .at)
+  unfolding secondPart
+  second-taken link pos at p next q =
+      by-test (ltb (u .class) classHM) (λ t. placed-taken u reference frame _ at p next bytes (simp t at q)) (λ t. plain-taken u reference frame at p next (simp t at q))
+
+  absent-taken : Taken u reference frame Absent 0
+  unfolding partBytes partLength
+  absent-taken = record { ready = tt; long = refl; most = omega arith; inside = omega arith }
+
+  both-ready : (p : Plan) (a b : ℕ) → Taken u reference frame (p .first) a → Taken u reference frame (p .second) b → ReadyPlan u reference frame p
+  both-ready p a b f s =
+      record { first = f .ready; second = s .ready; first-long = f .long; second-long = s .long; first-most = f .most; second-most = s .most }
+
+  pub blocks-ready : (at : ℕ) (p : Plan) → Blocks u reference frame at p → ReadyPlan u reference frame p
+  blocks-ready at p b = by (b .second)
+    where
+      first : Taken u reference frame (p .first) (b .next .at)
+      first = first-taken (p .pos) at (p .first) (b .next) (b .first)
+
+      by : Second u reference frame p (b .next .at) → ReadyPlan u reference frame p
+      by (alone few e) = both-ready p _ 0 first (rw e absent-taken)
+      by (behind next e) = both-ready p _ _ first (second-taken (p .link) (p .pos) (b .next .at) (p .second) next e)
+
+-- ---- the whole line
+
+-- a well-formed line of kind 03; its link and the state are what the pair symbols say; pos and the blocks stand behind the kind
+pub record PlanTaken (u : Unit) (reference symbols counts : List ℕ) (state : State) (line : List ℕ) (p : Plan) (moved : State) : Type 0 where
+  pub size : ℕ
+  pub well-formed : lineOf line ≡ Frame size
+  pub kind : bigAt 1 (unhex line) 0 ≡ kindRecord
+  pub linked : pairOf u symbols counts state .answer ≡ pair.Linked (p .link)
+  pub moved-is : moved ≡ pairOf u symbols counts state .state
+  pub pos-is : p .pos ≡ bigAt 4 (unhex line) 1
+  pub blocks : Blocks u reference (unhex line) 5 p
+  pub ready : ReadyPlan u reference (unhex line) p
+
+module _ (u : Unit) (reference symbols counts : List ℕ) (state : State) (line : List ℕ) (p : Plan) (moved : State) where
+  abbrev whole : Reading
+  whole = record { planned = Whole p; state = moved }
+
+  refused-never : (n : ℕ) (back : State) → refusedReading n back ≡ whole → ⊥
+  refused-never n back e = never (ap (λ (r : Reading). r .planned) e)
+
+  pub plan-taken : planOf u reference symbols counts state line ≡ record { planned = Whole p; state = moved } → PlanTaken u reference symbols counts state line p moved
+  unfolding planOf fromKind
+  plan-taken q =
+      let l = past-line (refusedReading malformed state) (refused-never malformed state) (lineOf line) _ q in
+      let f = past-field (refusedReading misframed state) (refused-never misframed state) 1 (unhex line) 0 _ (l .rest) in
+      let k = past-match (refusedReading misframed state) (refused-never misframed state) (bigAt 1 (unhex line) 0) kindRecord _ (f .rest) in
+      by-answer (l .bytes) (l .frame) (k .0) (pairOf u symbols counts state .answer) refl (k .1)
+    where
+      by-plan : (size : ℕ) → lineOf line ≡ Frame size → bigAt 1 (unhex line) 0 ≡ kindRecord → (link : Link) → pairOf u symbols counts state .answer ≡ pair.Linked link
+          → (x : Planned) → fromPos u reference (unhex line) link 1 ≡ x → settled x (pairOf u symbols counts state .state) state ≡ whole → PlanTaken u reference symbols counts state line p moved
+      by-plan size w k link e (Refused n) f z = absurd (refused-never n state z)
+      by-plan size w k link e (Whole got) f z =
+          let i : Whole got ≡ Whole p = ap (λ (r : Reading). r .planned) z in
+          let b = pos-blocks u reference (unhex line) p link 1 (f ∙ i) in
+          record {
+            size = size;
+            well-formed = w;
+            kind = k;
+            linked = e ∙ ap (λ (x : Link). pair.Linked x) (sym (b .link-is));
+            moved-is = sym (ap (λ (r : Reading). r .state) z);
+            pos-is = b .pos-is;
+            blocks = b .blocks;
+            ready = blocks-ready u reference (unhex line) (byte-lt line) 5 p (b .blocks);
+          }
+
+      by-answer : (size : ℕ) → lineOf line ≡ Frame size → bigAt 1 (unhex line) 0 ≡ kindRecord → (x : Answer) → pairOf u symbols counts state .answer ≡ x
+          → afterAnswer u reference (unhex line) (pairOf u symbols counts state .state) state 1 x ≡ whole → PlanTaken u reference symbols counts state line p moved
+      by-answer size w k (pair.Refused n) e z = absurd (refused-never n state z)
+      by-answer size w k (pair.Linked link) e z = by-plan size w k link e (fromPos u reference (unhex line) link 1) refl z
+
+  pub plan-ready : planOf u reference symbols counts state line ≡ record { planned = Whole p; state = moved } → ReadyPlan u reference (unhex line) p
+  plan-ready q = plan-taken q .ready

@@ -1,0 +1,16 @@
+-- `plan::read::finish` meets its contract: bytes are left over or not. Assumes nothing.
+use Rattle.unit.proofs.StepLaws.{steps}
+use Rattle.plan.specs.Plan.{finished}
+use Rattle.plan.proofs.read.finish.Statement.{statement}
+use Rattle.plan.proofs.read.finish.Tie as tie
+
+returns : tie.Need-returns
+unfolding finished
+returns c = search steps
+
+returns-2 : tie.Need-returns-2
+unfolding finished
+returns-2 c = search steps
+
+pub finish-spec : {M : Type 1} → statement M
+finish-spec = tie.close (tie.spec returns returns-2)

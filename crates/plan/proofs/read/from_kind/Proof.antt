@@ -1,0 +1,76 @@
+-- `plan::read::from_kind` meets its contract: the field, the kind, then the pair answer. Assumes nothing.
+use Rattle.unit.proofs.StepLaws.{steps}
+use Rattle.plan.proofs.Steps.{linked, unlinked}
+use Rattle.plan.specs.Plan.{fromKind}
+use borrow.Author.Needs.{needs}
+use Rattle.plan.proofs.read.from_kind.Statement.{statement}
+use Rattle.plan.proofs.read.from_kind.Tie as tie
+
+read-u8-requires : tie.Need-read-u8-requires
+read-u8-requires c κs = search needs
+
+enum-known-kind : tie.Need-enum-known-kind
+enum-known-kind c = search needs
+
+enum-told : tie.Need-enum-told
+enum-told c = search needs
+
+refused-requires : tie.Need-refused-requires
+refused-requires c κs = search needs
+
+returns : tie.Need-returns
+unfolding fromKind
+returns c = search steps
+
+refused-requires-2 : tie.Need-refused-requires-2
+refused-requires-2 c κs = search needs
+
+returns-2 : tie.Need-returns-2
+unfolding fromKind
+returns-2 c = search steps
+
+pair-requires : tie.Need-pair-requires
+pair-requires c κs = search needs
+
+enum-known-answer : tie.Need-enum-known-answer
+enum-known-answer c = search needs
+
+refused-requires-3 : tie.Need-refused-requires-3
+refused-requires-3 c κs = search needs
+
+enum-known-answer-2 : tie.Need-enum-known-answer-2
+enum-known-answer-2 c = search needs
+
+from-pos-requires : tie.Need-from-pos-requires
+from-pos-requires c κs = search needs
+
+settle-requires : tie.Need-settle-requires
+settle-requires c κs = search needs
+
+returns-3 : tie.Need-returns-3
+unfolding fromKind
+returns-3 c = search (steps, unlinked)
+
+returns-4 : tie.Need-returns-4
+unfolding fromKind
+returns-4 c = search (steps, linked)
+
+pub from-kind-spec : {M : Type 1} → statement M
+from-kind-spec =
+    tie.close
+    (tie.spec
+    read-u8-requires
+    enum-known-kind
+    enum-told
+    refused-requires
+    returns
+    refused-requires-2
+    returns-2
+    pair-requires
+    enum-known-answer
+    refused-requires-3
+    enum-known-answer-2
+    from-pos-requires
+    settle-requires
+    returns-3
+    returns-4)

@@ -1,0 +1,199 @@
+// What a record line says, read and checked whole before a byte is written.
+use frame::field::Cursor;
+use frame::field::Field;
+use frame::line::Line;
+use pairing::Answer;
+use pairing::Link;
+use segment::part::Part;
+use segment::part::PartRead;
+use unit::State;
+use unit::Unit;
+use unit::kind::Kind;
+ghost use mathlib.Core.Path.{_≡_};
+ghost use Rattle.frame.specs.Hex.{unhex};
+ghost use Rattle.plan.specs.Plan.{refusedReading, settled, planOf, fromKind, fromPos, fromFirst, fromSecond, finished, firstPart, secondPart};
+
+// A record as it will be listed: its pair link, its position and its segments.
+pub struct Plan {
+    pub link: Link,
+    pub pos: u32,
+    pub first: Part,
+    pub second: Part,
+}
+
+pub enum Planned {
+    Whole(Plan),
+    Refused(u32),
+}
+
+// What was read, and the state: with the record's symbols taken, or as it was given where the line is refused.
+pub struct Reading {
+    pub planned: Planned,
+    pub state: State,
+}
+
+// A refusal hands back the state that was given.
+fn refused(n: u32, state: State) -> Reading
+    ensures { λ r. ⌜ r ≡ refusedReading n state ⌝ }
+{
+    Reading {
+        planned: Planned::Refused(n),
+        state,
+    }
+}
+
+// The state after what was read.
+fn settle(planned: Planned, next: State, back: State) -> Reading
+    ensures { λ r. ⌜ r ≡ settled planned next back ⌝ }
+{
+    match planned {
+        Planned::Refused(n) => refused(n, back),
+        Planned::Whole(plan) => Reading {
+            planned: Planned::Whole(plan),
+            state: next,
+        },
+    }
+}
+
+// The line is lent with its 0A.
+pub fn read(
+    unit: Unit,
+    reference: &[u8],
+    symbols: &[u32],
+    counts: &[u32],
+    state: State,
+    line: &[u8],
+) -> Reading
+    ensures { λ r. ⌜ r ≡ planOf unit (now (reference .entry)) (now (symbols .entry)) (now (counts .entry)) state (now (line .entry)) ⌝ }
+{
+    match frame::line::line_of(line) {
+        Line::Malformed => refused(refusal::MALFORMED, state),
+        Line::Frame(_) => from_kind(unit, reference, symbols, counts, state, line),
+    }
+}
+
+// The kind, then the pair symbols as they are taken.
+fn from_kind(
+    unit: Unit,
+    reference: &[u8],
+    symbols: &[u32],
+    counts: &[u32],
+    state: State,
+    line: &[u8],
+) -> Reading
+    ensures { λ r. ⌜ r ≡ fromKind unit (now (reference .entry)) (now (symbols .entry)) (now (counts .entry)) state (unhex (now (line .entry))) ⌝ }
+{
+    let Field::Value(kind, c) = frame::field::read_u8(line, Cursor { at: 0 }) else {
+        return refused(refusal::MISFRAMED, state);
+    };
+    if kind != Kind::RECORD {
+        return refused(refusal::MISFRAMED, state);
+    }
+    let paired = pairing::pair(unit, symbols, counts, state);
+    let answer = paired.answer;
+    let next = paired.state;
+    match answer {
+        Answer::Refused(n) => refused(n, state),
+        Answer::Linked(link) => {
+            let planned = from_pos(unit, reference, line, link, c);
+            settle(planned, next, state)
+        }
+    }
+}
+
+// The position, which is 0 in class U.
+fn from_pos(unit: Unit, reference: &[u8], line: &[u8], link: Link, c: Cursor) -> Planned
+    ensures { λ r. ⌜ r ≡ fromPos unit (now (reference .entry)) (unhex (now (line .entry))) link (c .at) ⌝ }
+{
+    let Field::Value(pos, next) = frame::field::read_u32(line, c) else {
+        return Planned::Refused(refusal::MISFRAMED);
+    };
+    if unit.class == Unit::U {
+        if pos != 0 {
+            return Planned::Refused(refusal::POSITION_OUT);
+        }
+        return from_first(unit, reference, line, link, pos, next);
+    }
+    from_first(unit, reference, line, link, pos, next)
+}
+
+fn from_first(unit: Unit, reference: &[u8], line: &[u8], link: Link, pos: u32, c: Cursor) -> Planned
+    ensures { λ r. ⌜ r ≡ fromFirst unit (now (reference .entry)) (unhex (now (line .entry))) link pos (c .at) ⌝ }
+{
+    match first_part(unit, reference, line, pos, c) {
+        PartRead::Refused(n) => Planned::Refused(n),
+        PartRead::Whole(first, next) => from_second(unit, reference, line, link, pos, first, next),
+    }
+}
+
+// In class U no segment is aligned.
+fn first_part(unit: Unit, reference: &[u8], line: &[u8], pos: u32, c: Cursor) -> PartRead
+    ensures { λ r. ⌜ r ≡ firstPart unit (now (reference .entry)) (unhex (now (line .entry))) pos (c .at) ⌝ }
+{
+    if unit.class == Unit::U {
+        return segment::part::read_unaligned(line, unit, c);
+    }
+    segment::part::read_aligned(line, unit, reference, pos as u64, c)
+}
+
+fn from_second(
+    unit: Unit,
+    reference: &[u8],
+    line: &[u8],
+    link: Link,
+    pos: u32,
+    first: Part,
+    c: Cursor,
+) -> Planned
+    ensures { λ r. ⌜ r ≡ fromSecond unit (now (reference .entry)) (unhex (now (line .entry))) link pos first (c .at) ⌝ }
+{
+    if link.segments < Unit::SEGMENTS {
+        let plan = Plan {
+            link,
+            pos,
+            first,
+            second: Part::Absent,
+        };
+        return finish(line, plan, c);
+    }
+    match second_part(unit, reference, line, link, pos, c) {
+        PartRead::Refused(n) => Planned::Refused(n),
+        PartRead::Whole(second, next) => {
+            let plan = Plan {
+                link,
+                pos,
+                first,
+                second,
+            };
+            finish(line, plan, next)
+        }
+    }
+}
+
+// In classes HM and U the second segment is not aligned.
+fn second_part(
+    unit: Unit,
+    reference: &[u8],
+    line: &[u8],
+    link: Link,
+    pos: u32,
+    c: Cursor,
+) -> PartRead
+    ensures { λ r. ⌜ r ≡ secondPart unit (now (reference .entry)) (unhex (now (line .entry))) link pos (c .at) ⌝ }
+{
+    if unit.class < Unit::HM {
+        return segment::part::read_aligned(line, unit, reference, link.mate_position(pos), c);
+    }
+    segment::part::read_unaligned(line, unit, c)
+}
+
+// Nothing may be left over.
+fn finish(line: &[u8], plan: Plan, c: Cursor) -> Planned
+    ensures { λ r. ⌜ r ≡ finished (unhex (now (line .entry))) plan (c .at) ⌝ }
+{
+    let at = c.at;
+    if at < line.len() / 2 {
+        return Planned::Refused(refusal::MISFRAMED);
+    }
+    Planned::Whole(plan)
+}

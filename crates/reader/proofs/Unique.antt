@@ -1,0 +1,33 @@
+-- Each public promise admits one outcome: two answers that meet it are the same.
+-- Assumes nothing.
+use mathlib.Core.Path.{_≡_, ap, _∙_}
+use mathlib.Core.List.{List}
+use Prim.Native.Nat.{ℕ, _-_}
+use lib.ListN.{length}
+use denote.Ref.{RefT, now}
+use Rattle.frame.specs.Hex.{unhex}
+use Rattle.frame.specs.Field.{fieldAt}
+use Rattle.frame.specs.declared.field.Field.{Field}
+use Rattle.frame.proofs.Unique.{once}
+use Rattle.reader.specs.Reading.{bytesOf, atFront, further}
+use Rattle.reader.specs.Head.{headOf}
+use Rattle.reader.specs.declared.Reader.{Reader}
+use Rattle.reader.specs.declared.Width.{Width}
+use Rattle.reader.specs.declared.head.Head.{Head}
+
+pub front-once : (line : RefT (List ℕ)) {x y : Reader} → x ≡ atFront line → y ≡ atFront line → x ≡ y
+front-once line p q = once p q
+
+-- the field, and the reader that is lent
+pub field-once : (r : Reader) (w : Width) {x y : Field} {after after′ : Reader} → x ≡ fieldAt (bytesOf w) (unhex (now (r .0))) (r .1) → y ≡ fieldAt (bytesOf w) (unhex (now (r .0))) (r .1) → after ≡ further r x → after′ ≡ further r y → (x ≡ y) × (after ≡ after′)
+field-once r w p q f g = (once p q, once (f ∙ ap (further r) (once p q)) g)
+
+pub place-once : (r : Reader) {x y : ℕ} → x ≡ r .1 → y ≡ r .1 → x ≡ y
+place-once r p q = once p q
+
+pub left-once : (r : Reader) {x y : ℕ} → x ≡ length (unhex (now (r .0))) - r .1 → y ≡ length (unhex (now (r .0))) - r .1 → x ≡ y
+left-once r p q = once p q
+
+-- `head::read`
+pub head-once : (line : List ℕ) {x y : Head} → x ≡ headOf (unhex line) → y ≡ headOf (unhex line) → x ≡ y
+head-once line p q = once p q

@@ -1,0 +1,9 @@
+-- The first fields of a record line (document 01, Lines): kind u8, pos u32.
+-- Assumes nothing.
+use mathlib.Core.List.{List}
+use Prim.Native.Nat.{ℕ}
+use Rattle.frame.specs.Field.{fieldAt}
+use Rattle.reader.specs.declared.head.Head.{Head}
+
+unfoldable pub headOf : List ℕ → Head
+headOf bytes = record { kind = fieldAt 1 bytes 0; pos = fieldAt 4 bytes 1 }

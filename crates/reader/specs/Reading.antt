@@ -1,0 +1,28 @@
+-- A reading place: the line and how many bytes of its frame are read.
+-- Assumes nothing.
+use mathlib.Core.List.{List}
+use Prim.Native.Nat.{ℕ}
+use denote.Ref.{RefT}
+use Rattle.frame.specs.declared.field.Field.{Field}
+use Rattle.frame.specs.declared.field.Field.the-variants.{Value, Short}
+use Rattle.reader.specs.declared.Reader.{Reader}
+use Rattle.reader.specs.declared.Width.{Width}
+use Rattle.reader.specs.declared.Width.the-variants.{U8, U16, U32}
+
+-- how many bytes a field takes
+abbrev pub bytesOf : Width → ℕ
+bytesOf U8 = 1
+bytesOf U16 = 2
+bytesOf U32 = 4
+
+-- the place behind a field, or the place as it was
+abbrev pub behind : Field → ℕ → ℕ
+behind (Value v c) at = c .at
+behind Short at = at
+
+abbrev pub atFront : RefT (List ℕ) → Reader
+atFront line = record { 0 = line; 1 = 0 }
+
+-- the same line, and the place behind the field
+abbrev pub further : Reader → Field → Reader
+further r f = record { 0 = r .0; 1 = behind f (r .1) }

@@ -1,0 +1,86 @@
+-- The laws of an 04 line's bytes: how many there are, and that each is below 256.
+-- Assumes nothing.
+use mathlib.Core.Path.{_≡_, refl}
+use mathlib.Core.List.{List, [], _∷_, _++_, append-assoc}
+use Prim.Native.Nat.{ℕ, _+_, _*_}
+use native.Mathlib.Omega.{arith}
+use lib.ListN.{length, length-append}
+use Rattle.frame.specs.Hex.{Bytes, be}
+use Rattle.frame.proofs.HexLaws.{length-be, bytes-be}
+use Rattle.unit.specs.Kinds.{kindListed}
+use Rattle.unit.specs.Listed.{words, headOf}
+use Rattle.unit.specs.declared.Unit.{Unit}
+use Rattle.unit.specs.declared.State.{State}
+use Rattle.unit.proofs.UnitLaws.{bytes-append}
+use Rattle.pairing.specs.Table60.{mateSeqId, mappingPos}
+use Rattle.pairing.specs.declared.Link.{Link}
+use Rattle.segment.specs.Part.{partBytes, partLength}
+use Rattle.plan.specs.Plan.{ReadyPlan}
+use Rattle.plan.specs.declared.read.Plan.{Plan}
+use Rattle.plan.proofs.BytesLaws.{bytes-part}
+use Rattle.record.specs.Record.{linkBytes, listedBytes}
+
+-- ---- the head and the link
+
+length-words : (xs : List ℕ) → length (words xs) ≡ 2 * length xs
+unfolding words
+length-words [] = refl
+length-words (x ∷ xs) = omega (arith, length-append (be 2 x) (words xs), length-be 2 x, length-words xs)
+
+pub length-head : (number : ℕ) (next : State) → length (headOf number next) ≡ 3 + 2 * length (next .index)
+unfolding headOf
+length-head number next = simp (length-append, length-be, length-words)
+
+pub length-link : (sequence pos : ℕ) (link : Link) → length (linkBytes sequence pos link) ≡ 9
+unfolding linkBytes
+length-link sequence pos link = simp (length-append, length-be)
+
+bytes-words : (xs : List ℕ) → Bytes (words xs)
+unfolding words Bytes
+bytes-words [] = tt
+bytes-words (x ∷ xs) = bytes-append (be 2 x) (words xs) (bytes-be 2 x) (bytes-words xs)
+
+bytes-head : (number : ℕ) (next : State) → Bytes (headOf number next)
+unfolding headOf
+bytes-head number next =
+    simp append-assoc
+    (bytes-append (be 1 kindListed) _ (bytes-be 1 kindListed)
+    (bytes-append (be 2 number) _ (bytes-be 2 number)
+    (bytes-words (next .index))))
+
+bytes-link : (sequence pos : ℕ) (link : Link) → Bytes (linkBytes sequence pos link)
+unfolding linkBytes
+bytes-link sequence pos link =
+    simp append-assoc
+    (bytes-append (be 1 (link .first)) _ (bytes-be 1 (link .first))
+    (bytes-append (be 1 (link .split)) _ (bytes-be 1 (link .split))
+    (bytes-append (be 1 (link .segments)) _ (bytes-be 1 (link .segments))
+    (bytes-append (be 2 (mateSeqId sequence (link .mate))) _ (bytes-be 2 _)
+    (bytes-be 4 (mappingPos pos (link .mate)))))))
+
+-- ---- the whole line
+
+-- what stands behind the head
+abbrev pub tailBytes : Unit → List ℕ → List ℕ → Plan → List ℕ
+tailBytes u reference frame p =
+    linkBytes (u .sequence) (p .pos) (p .link) ++ partBytes u reference frame (p .first) ++ partBytes u reference frame (p .second)
+
+module _ (u : Unit) (reference frame : List ℕ) (number : ℕ) (next : State) (p : Plan) where
+  pub listed-head : listedBytes u reference frame number next p ≡ headOf number next ++ tailBytes u reference frame p
+  unfolding listedBytes
+  listed-head = simp append-assoc
+
+  pub bytes-listed : Bytes (listedBytes u reference frame number next p)
+  bytes-listed =
+      rw listed-head
+      (bytes-append (headOf number next) (tailBytes u reference frame p) (bytes-head number next)
+      (simp append-assoc
+      (bytes-append (linkBytes (u .sequence) (p .pos) (p .link)) _ (bytes-link (u .sequence) (p .pos) (p .link))
+      (bytes-append (partBytes u reference frame (p .first)) _ (bytes-part u reference frame (p .first))
+      (bytes-part u reference frame (p .second))))))
+
+  -- the bytes before the segments, and those of each segment
+  pub length-listed : ReadyPlan u reference frame p → length (listedBytes u reference frame number next p) ≡ 12 + 2 * length (next .index) + partLength (p .first) + partLength (p .second)
+  unfolding listedBytes
+  length-listed h =
+      simp (length-append, length-head, length-link) (omega (arith, h .first-long, h .second-long))

@@ -1,0 +1,177 @@
+-- The laws of the record call: its refusals are numbers of the table below 17, and what an accepted line says of the 04 line and the next state.
+-- Assumes nothing.
+use mathlib.Core.Path.{_≡_, refl, sym, ap, _∙_}
+use mathlib.Core.List.{List, _++_}
+use Prim.Native.Nat.{ℕ, _+_, _-_, _*_, _%_, _<_, _≤_}
+use native.Mathlib.Omega.{arith}
+use borrow.Author.Tests.{lt-ltb, ne-eqb, eqb-true}
+use lib.Dec.{ltb, eqb}
+use lib.ListN.{length, take, getD, length-append}
+use lib.Seq.{length-take-le}
+use Rattle.refusal.specs.Numbers.{fine, noRoom}
+use Rattle.frame.specs.Hex.{Bytes, unhex}
+use Rattle.frame.specs.Line.{lineDigits, lineEnd, lineWithin, lineOf}
+use Rattle.frame.specs.declared.line.Line.the-variants.{Frame, Malformed}
+use Rattle.frame.proofs.HexLaws.{by-test}
+use Rattle.unit.specs.State.{subsequences}
+use Rattle.unit.specs.Listed.{mostListed, leastListed, headOf, Step, refused, accepted}
+use Rattle.unit.specs.declared.Unit.{Unit as UnitOf}
+use Rattle.unit.specs.declared.State.{State}
+use Rattle.pairing.specs.Pairing.{pairOf}
+use Rattle.pairing.specs.declared.Link.{Link}
+use Rattle.pairing.proofs.Taking.{one-of}
+use Rattle.pairing.proofs.Laws.{pair-follows, pair-within}
+use Rattle.plan.specs.Lent.{lentRefusal}
+use Rattle.plan.specs.Plan.{planOf}
+use Rattle.plan.specs.declared.read.Plan.{Plan}
+use Rattle.plan.specs.declared.read.Planned.{Planned}
+use Rattle.plan.specs.declared.read.Planned.the-variants.{Whole, Refused}
+use Rattle.plan.proofs.PlanLaws.{PlanTaken, plan-taken}
+use Rattle.plan.proofs.RefusalLaws.{EarlyPlan, lent-early, plan-early}
+use Rattle.plan.proofs.StateLaws.{LentTaken, lent-taken}
+use Rattle.record.specs.Record.{linkBytes, listedBytes, after, planned, stepOf, withRoom, recordOf}
+use Rattle.record.proofs.BytesLaws.{tailBytes, listed-head, bytes-listed, length-listed, length-head, length-link}
+
+-- exactly so many bytes stand before the segments
+pub least-listed : (number sequence pos : ℕ) (next : State) (link : Link) → length (next .index) ≡ subsequences → length (headOf number next ++ linkBytes sequence pos link) ≡ leastListed
+least-listed number sequence pos next link h = simp (length-append, length-head, length-link) (omega arith)
+
+-- ---- a refusal
+
+abbrev EarlyStep : Step → Type 0
+EarlyStep (refused n) = n < noRoom
+EarlyStep (accepted frame next) = Unit
+
+module _ (u : UnitOf) (reference symbols counts : List ℕ) (state : State) (line : List ℕ) where
+  step-early : EarlyStep (stepOf u reference symbols counts state line)
+  unfolding stepOf
+  step-early =
+      one-of EarlyStep (eqb (lentRefusal u (length reference) (length symbols) counts state) fine) _ _
+      (by (planOf u reference symbols counts state line .planned) (plan-early u reference symbols counts state line))
+      (lent-early u (length reference) (length symbols) counts state)
+    where
+      by : (x : Planned) → EarlyPlan x → EarlyStep (planned u reference (unhex line) state (planOf u reference symbols counts state line .state) x)
+      by (Whole p) h = tt
+      by (Refused n) h = h
+
+  -- every refusal is a number of the table before 17
+  pub step-refusal : (n : ℕ) → stepOf u reference symbols counts state line ≡ refused n → n < noRoom
+  step-refusal n e = rw e at step-early
+
+-- ---- an accepted line
+
+-- what was lent, what the line said, and that the call answers with its 04 line and the next record's state
+pub record StepTaken (u : UnitOf) (reference symbols counts : List ℕ) (state : State) (line frame : List ℕ) (next : State) : Type 0 where
+  pub lent : LentTaken u (length reference) (length symbols) counts state
+  pub plan : Plan
+  pub moved : State
+  pub taken : PlanTaken u reference symbols counts state line plan moved
+  pub frame-is : frame ≡ listedBytes u reference (unhex line) (state .number) (after state moved) plan
+  pub next-is : next ≡ after state moved
+
+-- the facts that a listing asks of it
+pub record Listed (u : UnitOf) (counts : List ℕ) (state : State) (line frame : List ℕ) (next : State) : Type 0 where
+  pub size : ℕ
+  pub well-formed : lineOf line ≡ Frame size
+  pub tail : List ℕ
+  pub head : frame ≡ headOf (state .number) next ++ tail
+  pub bytes : Bytes frame
+  pub least : leastListed ≤ length frame
+  pub most : 2 * length frame ≤ mostListed
+  pub in-count : state .number < u .records
+  pub number : next .number ≡ state .number + 1
+  pub indexes : length (next .index) ≡ subsequences
+  pub in-counts : (i : ℕ) → getD (next .index) i 0 ≤ getD counts i 0
+
+module _ (u : UnitOf) (reference symbols counts : List ℕ) (state : State) (line frame : List ℕ) (next : State) where
+  pub step-taken : stepOf u reference symbols counts state line ≡ accepted frame next → StepTaken u reference symbols counts state line frame next
+  unfolding stepOf
+  step-taken q =
+      by-test (eqb (lentRefusal u (length reference) (length symbols) counts state) fine)
+      (λ t. by (lent-taken u (length reference) (length symbols) counts state (eqb-true _ _ t)) (planOf u reference symbols counts state line .planned) refl (simp t at q))
+      (λ t. absurd (let e = simp t at q in let z : _≡_ {A = ℕ} 0 1 = cc in omega arith))
+    where
+      by : LentTaken u (length reference) (length symbols) counts state → (x : Planned) → planOf u reference symbols counts state line .planned ≡ x
+          → planned u reference (unhex line) state (planOf u reference symbols counts state line .state) x ≡ accepted frame next → StepTaken u reference symbols counts state line frame next
+      by l (Refused n) e z = absurd (let y : _≡_ {A = ℕ} 0 1 = cc in omega arith)
+      by l (Whole p) e z =
+          let moved = planOf u reference symbols counts state line .state in
+          record {
+            lent = l;
+            plan = p;
+            moved = moved;
+            taken = plan-taken u reference symbols counts state line p moved (ap (λ (x : Planned). record { planned = x; state = moved }) e);
+            frame-is = cc;
+            next-is = cc;
+          }
+
+  listed : (p : Plan) (moved : State) → LentTaken u (length reference) (length symbols) counts state → PlanTaken u reference symbols counts state line p moved
+      → frame ≡ listedBytes u reference (unhex line) (state .number) (after state moved) p → next ≡ after state moved → length (state .index) ≡ subsequences → Listed u counts state line frame next
+  listed p moved lent taken f n eight =
+      let i : moved ≡ pairOf u symbols counts state .state = taken .moved-is in
+      let eight-after : length (moved .index) ≡ subsequences = rw i (pair-follows u symbols counts state .long ∙ eight) in
+      let long = length-listed u reference (unhex line) (state .number) (after state moved) p (taken .ready) in
+      rw (f, n)
+      record {
+        size = taken .size;
+        well-formed = taken .well-formed;
+        tail = tailBytes u reference (unhex line) p;
+        head = listed-head u reference (unhex line) (state .number) (after state moved) p;
+        bytes = bytes-listed u reference (unhex line) (state .number) (after state moved) p;
+        least = omega (arith, long, eight-after);
+        most = omega (arith, long, eight-after, taken .ready .first-most, taken .ready .second-most);
+        in-count = lent .in-count;
+        number = refl;
+        indexes = eight-after;
+        in-counts = rw i (pair-within u symbols counts state (lent .within));
+      }
+
+  pub step-accepted : stepOf u reference symbols counts state line ≡ accepted frame next → length (state .index) ≡ subsequences → Listed u counts state line frame next
+  step-accepted q eight = let s = step-taken q in listed (s .plan) (s .moved) (s .lent) (s .taken) (s .frame-is) (s .next-is) eight
+
+-- ---- room for the longest line
+
+-- it is enough for every line: 17 is not answered
+pub record-roomy : (u : UnitOf) (reference symbols counts : List ℕ) (state : State) (line : List ℕ) (room : ℕ) → length (state .index) ≡ subsequences → mostListed < room
+    → recordOf u reference symbols counts state line room ≡ stepOf u reference symbols counts state line
+unfolding recordOf
+record-roomy u reference symbols counts state line room eight h = by (stepOf u reference symbols counts state line) refl
+  where
+    by : (x : Step) → stepOf u reference symbols counts state line ≡ x → withRoom room x ≡ x
+    by (refused n) e = refl
+    by (accepted frame next) e =
+        let most = step-accepted u reference symbols counts state line frame next e eight .most in
+        rw (lt-ltb (2 * length frame) room (omega (arith, most)))
+
+-- ---- lines that are not well formed
+
+-- too long, whatever it says
+long-malformed : (most : ℕ) (s : List ℕ) → most + 1 < length s → lineWithin most s ≡ Malformed
+unfolding lineWithin
+long-malformed most s h = by-test (eqb (length s % 2) 0) (λ t. simp t) (λ t. simp (t, lt-ltb most (length s - 1) (omega arith)))
+
+-- no 0A at its end; an empty line has none
+unended-malformed : (most : ℕ) (s : List ℕ) → (getD s (length s - 1) 0 ≡ lineEnd → ⊥) → lineWithin most s ≡ Malformed
+unfolding lineWithin
+unended-malformed most s h =
+    by-test (eqb (length s % 2) 0) (λ t. simp t)
+    (λ t. by-test (ltb most (length s - 1)) (λ k. simp (t, k)) (λ k. simp (t, k, ne-eqb _ _ h)))
+
+module _ (u : UnitOf) (reference symbols counts : List ℕ) (state : State) where
+  -- of a line that is not well formed nothing more is looked at
+  pub malformed-same : (line other : List ℕ) → lineOf line ≡ Malformed → lineOf other ≡ Malformed → stepOf u reference symbols counts state line ≡ stepOf u reference symbols counts state other
+  unfolding stepOf planOf
+  malformed-same line other e f = simp (e, f)
+
+  -- a line past the limit answers as its first bytes do, one more than the limit and the 0A
+  pub long-line : (line : List ℕ) → lineDigits + 1 < length line → stepOf u reference symbols counts state line ≡ stepOf u reference symbols counts state (take (lineDigits + 2) line)
+  long-line line h =
+      let cut : length (take (lineDigits + 2) line) ≡ lineDigits + 2 = length-take-le (lineDigits + 2) line (omega arith) in
+      malformed-same line (take (lineDigits + 2) line) (long-malformed lineDigits line h) (long-malformed lineDigits _ (omega (arith, cut)))
+
+  -- a line without its 0A, as an empty one, is never accepted
+  pub no-end : (line frame : List ℕ) (next : State) → (getD line (length line - 1) 0 ≡ lineEnd → ⊥) → stepOf u reference symbols counts state line ≡ accepted frame next → ⊥
+  no-end line frame next h q =
+      let t = step-taken u reference symbols counts state line frame next q .taken in
+      let e : Malformed ≡ Frame (t .size) = sym (unended-malformed lineDigits line h) ∙ t .well-formed in
+      let z : _≡_ {A = ℕ} 0 1 = cc in omega arith

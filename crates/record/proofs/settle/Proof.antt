@@ -1,0 +1,92 @@
+-- `record::settle` meets its contract: `no-room`, and `room` over the bytes of the line, which are as many as the code counts. Assumes nothing.
+use Prim.Native.Nat.{ℕ, _+_}
+use mathlib.Core.Path.{_≡_, sym, _∙_}
+use mathlib.Core.List.{List, map}
+use native.Mathlib.Omega.{arith}
+use denote.Ref.{now}
+use borrow.Kind.Array.{good-length, eInt}
+use mir.Syntax.{w32}
+use lib.ListN.{length, length-map, length-set}
+use Rattle.frame.specs.Hex.{unhex}
+use Rattle.frame.proofs.LayLaws.{length-laid}
+use Rattle.unit.specs.Listed.{leastListed}
+use Rattle.unit.specs.State.{subsequences}
+use Rattle.unit.specs.declared.State.{State}
+use Rattle.segment.specs.Part.{partLength}
+use Rattle.record.specs.Record.{after, listedBytes}
+use Rattle.record.proofs.BytesLaws.{length-listed}
+use Rattle.record.proofs.RoomLaws.{no-room, room}
+use borrow.Author.Needs.{needs}
+use Rattle.record.proofs.settle.Statement.{statement}
+use Rattle.record.proofs.settle.Tie as tie
+
+abbrev next : tie.Start → State
+next s = after (s .args .state) (s .args .moved)
+
+abbrev bytes : tie.Start → List ℕ
+bytes s = listedBytes (s .args .unit) (now (s .args .reference)) (unhex (now (s .args .line))) (s .args .state .number) (next s) (s .args .p)
+
+eight : (s : tie.Start) → length (s .args .moved .index) ≡ subsequences
+eight s =
+    sym (length-map (s .args .moved .index) (λ v. v))
+    ∙ good-length (eInt w32) subsequences (map (λ v. v) (s .args .moved .index)) _ (s .good .1 .1 .1 .0 .1 .1 .1 .0)
+
+long : (s : tie.Start) → length (bytes s) ≡ leastListed + partLength (s .args .p .first) + partLength (s .args .p .second)
+long s = omega (arith, eight s, length-listed _ _ _ (s .args .state .number) (next s) (s .args .p) (s .pre .0))
+
+bytes-requires : tie.Need-bytes-requires
+bytes-requires c κs = search needs
+
+add-bytes : tie.Need-add-bytes
+add-bytes c = search needs
+
+bytes-requires-2 : tie.Need-bytes-requires-2
+bytes-requires-2 c κs = search needs
+
+add-bytes-2 : tie.Need-add-bytes-2
+add-bytes-2 c = search needs
+
+mul-if1 : tie.Need-mul-if1
+mul-if1 c = search needs
+
+refused-requires : tie.Need-refused-requires
+refused-requires c κs = search needs
+
+returns : tie.Need-returns
+returns c = let s = c .before .before .before .before .before .before .before in let w = no-room (s .args .state) (next s) (now (s .args .out)) (bytes s) (omega (arith, long s, c .before .before .before .bytes .ensures, c .before .before .bytes2 .ensures, c .before .if1 .taken)) in (c .refused .ensures ∙ w .0, w .1)
+
+add-next : tie.Need-add-next
+add-next c = search needs
+
+write-requires : tie.Need-write-requires
+write-requires c κs = let s = c .before .before .before .before .before .before .before .before in (s .pre .0, omega (arith, long s, c .before .before .before .before .bytes .ensures, c .before .before .before .bytes2 .ensures, c .before .before .if1 .left))
+
+slice-write-out : tie.Need-slice-write-out
+slice-write-out c = let s = c .before .before .before .before .before .before .before .before .before .before .before in omega (arith, long s, c .before .before .before .before .before .before .before .bytes .ensures, c .before .before .before .before .before .before .bytes2 .ensures, c .before .before .before .before .before .if1 .left, c .before .before .write .ensures .to, length-laid (c .before .before .write .ensures))
+
+add-t14 : tie.Need-add-t14
+add-t14 c = search needs
+
+same-length : tie.Need-same-length
+same-length c = simp length-set (length-laid (c .before .before .write .ensures))
+
+returns-2 : tie.Need-returns-2
+returns-2 c = let s = c .before .before .before .before .before .before .before .before .before .before .before in room (s .args .state) (next s) _ _ (omega (arith, long s, c .before .before .before .before .before .before .before .bytes .ensures, c .before .before .before .before .before .before .bytes2 .ensures, c .before .before .before .before .before .if1 .left)) (c .before .before .write .ensures)
+
+pub settle-spec : {M : Type 1} → statement M
+settle-spec =
+    tie.close
+    (tie.spec
+    bytes-requires
+    add-bytes
+    bytes-requires-2
+    add-bytes-2
+    mul-if1
+    refused-requires
+    returns
+    add-next
+    write-requires
+    slice-write-out
+    add-t14
+    same-length
+    returns-2)

@@ -1,0 +1,98 @@
+// The record call: from a lent record line to a lent 04 line. Nothing is written before all is known.
+use frame::line::Line;
+use plan::lent;
+use plan::read;
+use plan::read::Plan;
+use plan::read::Planned;
+use unit::State;
+use unit::Unit;
+use unit::listed::ListedLine;
+ghost use mathlib.Core.Path.{_≡_};
+ghost use Prim.Native.Nat.{_<_};
+ghost use lib.ListN.{length};
+ghost use Rattle.frame.specs.Hex.{unhex};
+ghost use Rattle.unit.specs.Unit.{mostRecords};
+ghost use Rattle.plan.specs.Plan.{ReadyPlan};
+ghost use Rattle.plan.specs.declared.read.Planned.the-variants.{Whole};
+ghost use Rattle.record.specs.Record.{recordOf, refusedBy, recorded, output, withRoom, planned};
+
+mod write;
+
+// How many bytes were written, the 0A among them; or the refusal's number.
+pub enum Answer {
+    Listed(usize),
+    Refused(u32),
+}
+
+// The answer, and the state after it: the next record's, or as it was given.
+pub struct Recorded {
+    pub answer: Answer,
+    pub state: State,
+}
+
+// A refusal, with the state that was given.
+fn refused(n: u32, state: State) -> Recorded
+    ensures { λ r. ⌜ r ≡ refusedBy n state ⌝ }
+{
+    Recorded {
+        answer: Answer::Refused(n),
+        state,
+    }
+}
+
+// A record that is checked: 17 where there is no room for its line, else the line and the next state.
+fn settle(
+    unit: Unit,
+    reference: &[u8],
+    state: State,
+    moved: State,
+    line: &[u8],
+    out: &mut [u8],
+    p: Plan,
+) -> Recorded
+    requires { ⌜ ReadyPlan unit (now reference) (unhex (now line)) p ⌝ }
+    requires { ⌜ state .number < mostRecords ⌝ }
+    ensures { λ r. ⌜ r ≡ recorded state (withRoom (length (now (out .entry))) (planned unit (now (reference .entry)) (unhex (now (line .entry))) state moved (Whole p))) ⌝ }
+    ensures { λ _. ⌜ now (out .exit) ≡ output (now (out .entry)) (withRoom (length (now (out .entry))) (planned unit (now (reference .entry)) (unhex (now (line .entry))) state moved (Whole p))) ⌝ }
+{
+    let first = p.first;
+    let second = p.second;
+    let bytes = ListedLine::LEAST + first.bytes() + second.bytes();
+    if out.len() <= 2 * bytes {
+        return refused(refusal::NO_ROOM, state);
+    }
+    let mut next = moved;
+    next.number = state.number + 1;
+    let end = write::write(out, unit, reference, line, state.number, next, p);
+    out[end] = Line::END;
+    Recorded {
+        answer: Answer::Listed(end + 1),
+        state: next,
+    }
+}
+
+// One record: what is lent is checked, then the whole line, then the room; only then is the 04 line laid.
+pub fn record(
+    unit: Unit,
+    reference: &[u8],
+    symbols: &[u32],
+    counts: &[u32],
+    state: State,
+    line: &[u8],
+    out: &mut [u8],
+) -> Recorded
+    ensures { λ r. ⌜ r ≡ recorded state (recordOf unit (now (reference .entry)) (now (symbols .entry)) (now (counts .entry)) state (now (line .entry)) (length (now (out .entry)))) ⌝ }
+    ensures { λ _. ⌜ now (out .exit) ≡ output (now (out .entry)) (recordOf unit (now (reference .entry)) (now (symbols .entry)) (now (counts .entry)) state (now (line .entry)) (length (now (out .entry)))) ⌝ }
+{
+    let n = lent::refusal_of(unit, reference, symbols, counts, state);
+    if n != 0 {
+        return refused(n, state);
+    }
+    let reading = read::read(unit, reference, symbols, counts, state, line);
+    let planned = reading.planned;
+    let moved = reading.state;
+    match planned {
+        Planned::Refused(k) => refused(k, state),
+        Planned::Whole(p) => settle(unit, reference, state, moved, line, out, p),
+    }
+}

@@ -1,0 +1,82 @@
+// The 04 line of a record that is checked, laid into the lent line.
+use frame::lay::put_u8;
+use frame::lay::put_u16;
+use frame::lay::put_u32;
+use pairing::Link;
+use plan::read::Plan;
+use segment::write as segment_write;
+use unit::State;
+use unit::Unit;
+use unit::kind::Kind;
+ghost use Prim.Native.Nat.{_+_, _*_, _≤_};
+ghost use lib.ListN.{length};
+ghost use Rattle.frame.specs.Hex.{unhex};
+ghost use Rattle.frame.specs.Lay.{Laid};
+ghost use Rattle.unit.specs.Listed.{words, headOf};
+ghost use Rattle.plan.specs.Plan.{ReadyPlan};
+ghost use Rattle.record.specs.Record.{linkBytes, listedBytes};
+
+// The indexes, two bytes each.
+fn put_indexes(out: &mut [u8], at: usize, index: [u32; State::SUBSEQUENCES]) -> usize
+    requires { ⌜ at + 2 * length (words index) ≤ length (now out) ⌝ }
+    ensures { λ r. ⌜ Laid (now (out .entry)) (now (out .exit)) at r (words index) ⌝ }
+{
+    let mut p = at;
+    let mut i: usize = 0;
+    while i < State::SUBSEQUENCES {
+        p = put_u16(out, p, index[i]);
+        i += 1;
+    }
+    p
+}
+
+// Kind, record number, and the indexes after this record.
+fn put_head(out: &mut [u8], number: u32, next: State) -> usize
+    requires { ⌜ 2 * length (headOf number next) ≤ length (now out) ⌝ }
+    ensures { λ r. ⌜ Laid (now (out .entry)) (now (out .exit)) 0 r (headOf number next) ⌝ }
+{
+    let index = next.index;
+    let a = put_u8(out, 0, Kind::LISTED);
+    let b = put_u16(out, a, number);
+    put_indexes(out, b, index)
+}
+
+// What the pair symbols say: read1First, splitMate, the record's segments, and the mate's sequence id and position.
+fn put_link(out: &mut [u8], at: usize, unit: Unit, pos: u32, link: Link) -> usize
+    requires { ⌜ at + 2 * length (linkBytes (unit .sequence) pos link) ≤ length (now out) ⌝ }
+    ensures { λ r. ⌜ Laid (now (out .entry)) (now (out .exit)) at r (linkBytes (unit .sequence) pos link) ⌝ }
+{
+    let sequence = link.mate_sequence(unit);
+    let position = link.mate_position(pos);
+    let a = put_u8(out, at, link.first);
+    let b = put_u8(out, a, link.split);
+    let c = put_u8(out, b, link.segments);
+    let d = put_u16(out, c, sequence);
+    put_u32(out, d, (position % HALF) as u32)
+}
+
+// A position is below this; of a wider sum, which no accepted record has, the low four bytes are laid.
+const HALF: u64 = 4_294_967_296;
+
+// The bytes of an 04 line; the rest of the line is lent on for the second segment.
+pub fn write(
+    out: &mut [u8],
+    unit: Unit,
+    reference: &[u8],
+    line: &[u8],
+    number: u32,
+    next: State,
+    p: Plan,
+) -> usize
+    requires { ⌜ ReadyPlan unit (now reference) (unhex (now line)) p ⌝ }
+    requires { ⌜ 2 * length (listedBytes unit (now reference) (unhex (now line)) number next p) ≤ length (now out) ⌝ }
+    ensures { λ r. ⌜ Laid (now (out .entry)) (now (out .exit)) 0 r (listedBytes unit (now (reference .entry)) (unhex (now (line .entry))) number next p) ⌝ }
+{
+    let first = p.first;
+    let second = p.second;
+    let a = put_head(out, number, next);
+    let b = put_link(out, a, unit, p.pos, p.link);
+    let c = segment_write::write(out, b, line, unit, reference, first);
+    let d = segment_write::write(&mut out[c..], 0, line, unit, reference, second);
+    c + d
+}
