@@ -38,7 +38,7 @@ module _ (u : Unit) (reference symbols counts : List ℕ) (state : State) {n : �
 
   -- ---- what is left for the writing
 
-  -- one more is still a number of the listing
+  -- the next record's number does not wrap
   pub number-fits : n ≡ fine → state .number < mostRecords
   number-fits h = let l = lent-taken u (length reference) (length symbols) counts state (sym e ∙ h) in omega (arith, l .in-count, l .unit .records)
 

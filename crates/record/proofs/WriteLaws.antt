@@ -14,14 +14,17 @@ use Rattle.unit.specs.Listed.{words}
 
 -- ---- the indexes, one after the other
 
+-- the next one, then what is left
 pub words-on : {n : ℕ} (xs : List ℕ) (i : ℕ) → length xs ≡ n → i < n → words (drop i xs) ≡ be 2 (getD xs i 0) ++ words (drop (i + 1) xs)
 unfolding words
 words-on xs i e h = rw (drop-cons xs i 0 (omega arith), add-one)
 
+-- none is left
 pub words-end : {n : ℕ} (xs : List ℕ) (i : ℕ) → length xs ≡ n → n ≤ i → words (drop i xs) ≡ []
 unfolding words
 words-end xs i e h = rw (drop-of-length-le xs {i = i} (omega arith))
 
+-- there is room for the next one
 pub words-room : {l l₀ : List ℕ} {p p₀ n : ℕ} (xs : List ℕ) (i : ℕ) → Rest l p (words (drop i xs)) l₀ p₀ (words xs) → length xs ≡ n → i < n
     → p₀ + 2 * length (words xs) ≤ length l₀ → p + 4 ≤ length l
 words-room xs i r e h room =

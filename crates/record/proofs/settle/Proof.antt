@@ -62,7 +62,7 @@ write-requires : tie.Need-write-requires
 write-requires c κs = let s = c .before .before .before .before .before .before .before .before in (s .pre .0, omega (arith, long s, c .before .before .before .before .bytes .ensures, c .before .before .before .bytes2 .ensures, c .before .before .if1 .left))
 
 slice-write-out : tie.Need-slice-write-out
-slice-write-out c = let s = c .before .before .before .before .before .before .before .before .before .before .before in omega (arith, long s, c .before .before .before .before .before .before .before .bytes .ensures, c .before .before .before .before .before .before .bytes2 .ensures, c .before .before .before .before .before .if1 .left, c .before .before .write .ensures .to, length-laid (c .before .before .write .ensures))
+slice-write-out c = let s = c .before .before .before .before .before .before .before .before .before .before .before in omega (arith, long s, c .before .before .before .before .before .before .before .bytes .ensures, c .before .before .before .before .before .before .bytes2 .ensures, c .before .before .before .before .before .if1 .left, c .before .before .write .ensures .to, length-laid {xs = bytes s} (c .before .before .write .ensures))
 
 add-t14 : tie.Need-add-t14
 add-t14 c = search needs
@@ -71,7 +71,7 @@ same-length : tie.Need-same-length
 same-length c = simp length-set (length-laid (c .before .before .write .ensures))
 
 returns-2 : tie.Need-returns-2
-returns-2 c = let s = c .before .before .before .before .before .before .before .before .before .before .before in room (s .args .state) (next s) _ _ (omega (arith, long s, c .before .before .before .before .before .before .before .bytes .ensures, c .before .before .before .before .before .before .bytes2 .ensures, c .before .before .before .before .before .if1 .left)) (c .before .before .write .ensures)
+returns-2 c = let s = c .before .before .before .before .before .before .before .before .before .before .before in room (s .args .state) (next s) _ (bytes s) (omega (arith, long s, c .before .before .before .before .before .before .before .bytes .ensures, c .before .before .before .before .before .before .bytes2 .ensures, c .before .before .before .before .before .if1 .left)) (c .before .before .write .ensures)
 
 pub settle-spec : {M : Type 1} → statement M
 settle-spec =

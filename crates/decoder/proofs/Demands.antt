@@ -1,0 +1,194 @@
+-- WHAT IS PROMISED, demand by demand: of every reference.hex and unit.hex, whatever their bytes, and of every found file. Each theorem is proved where it is cited from.
+-- Assumes nothing.
+use Prim.Native.Nat.{ℕ, suc, _+_, _-_, _<_, _≤_}
+use mathlib.Core.Path.{_≡_, refl}
+use mathlib.Core.Logic.{_⊎_}
+use mathlib.Core.List.{List, []}
+use mathlib.Core.Option.{none, some}
+use lib.ListN.{length, getD, take, drop}
+use Rattle.refusal.specs.Numbers.{missing, otherFirst, otherLast, noRoom}
+use Rattle.frame.specs.Hex.{unhex}
+use Rattle.frame.specs.Field.{bigAt}
+use Rattle.frame.proofs.Unique.{once}
+use Rattle.unit.specs.Unit.{mostReference}
+use Rattle.unit.specs.State.{subsequences, freshState}
+use Rattle.unit.specs.Kinds.{kindRefused, kindDone}
+use Rattle.unit.specs.Listed.{mostListed, numberPlace, refused, accepted}
+use Rattle.unit.specs.declared.Unit.{Unit}
+use Rattle.unit.specs.declared.State.{State}
+use Rattle.record.specs.Record.{stepOf, recordOf, recorded, output}
+use Rattle.record.specs.declared.Answer.the-variants.{Refused}
+use Rattle.record.proofs.RecordLaws.{StepTaken, step-taken}
+use Rattle.listing.specs.Lines.{linesOf, joined, kept}
+use Rattle.listing.specs.Files.{good, wrong}
+use Rattle.listing.specs.Listing.{line05, line06, Each, ListingLine, Numbered}
+use Rattle.listing.specs.Resuming.{bytes05, bytes06, stateAt, lastFrom, nothing, edges, countOf, countsOf, place, ListedLine, ClosingLine, Closes, Continues, placeBy, add, refuse, skip, onSkip, edgesIn, printed, noRecord, torn}
+use Rattle.listing.specs.Turn.{Turn}
+use Rattle.listing.specs.Keep.{mostBytes, fresh, keepAll, edgesAt}
+use Rattle.listing.proofs.Demand2 as two
+use Rattle.listing.proofs.Demand3 as three
+use Rattle.decoder.specs.Files.{readReference, countsIn, emptyTable, tableOf, basesInto, readsInto}
+use Rattle.decoder.specs.Decoder.{frontOf, listingOf, firstListed, restListed, linesListed, suppliedBy, suppliedOf, resumedOf, resumedAgainOf, Opened, setupIn}
+use Rattle.decoder.specs.Symbols.{symbolsTaken, RecordLine, AllTaken}
+use Rattle.decoder.specs.Turned.{turnOf, turnedOf, outputOf, callsFor}
+use Rattle.decoder.specs.declared.Turned.{Turned}
+use Rattle.decoder.specs.declared.Added.the-variants.{NoRoom}
+use Rattle.decoder.proofs.TableLaws.{reads-bases}
+use Rattle.decoder.proofs.LawfulLaws.{front-is-lawful}
+use Rattle.decoder.proofs.OpenedLaws.{opened-front, opened-table}
+use Rattle.decoder.proofs.SymbolsLaws.{opened-lawful, taken-in-order, listing-record, listing-done}
+use Rattle.decoder.proofs.ListingLaws.{lines-short, listing-bytes, reference-first, opened-calls, opened-goes-on}
+use Rattle.decoder.proofs.TurnLaws.{turn-short}
+
+-- ---- DEMAND 1: a refused call changes nothing that was lent
+
+-- the state is handed back as it was given, and no lent byte differs
+pub refused-call-changes-nothing : (u : Unit) (reference symbols counts : List ℕ) (state : State) (line out : List ℕ) (n : ℕ) → recordOf u reference symbols counts state line (length out) ≡ refused n
+    → (recorded state (recordOf u reference symbols counts state line (length out)) ≡ record { answer = Refused n; state = state })
+    × (output out (recordOf u reference symbols counts state line (length out)) ≡ out)
+refused-call-changes-nothing u reference symbols counts state line out n e = (rw e, rw e)
+
+-- nor does a turn that is lent less than the longest line needs
+pub short-turn-changes-nothing : (u : Unit) (reference symbols counts : List ℕ) (state : State) (line out : List ℕ) → length out ≤ mostListed
+    → (record { added = NoRoom; state = state } ≡ turnedOf out state (turnOf u reference symbols counts state line)) × (out ≡ outputOf out (turnOf u reference symbols counts state line))
+short-turn-changes-nothing = turn-short
+
+-- what `turn` promises admits one outcome
+pub turn-has-one-outcome : (out : List ℕ) (state : State) (t : Turn) {x y : Turned} {e f : List ℕ}
+    → (x ≡ turnedOf out state t) × (e ≡ outputOf out t) → (y ≡ turnedOf out state t) × (f ≡ outputOf out t) → (x ≡ y) × (e ≡ f)
+turn-has-one-outcome out state t p q = (once (p .0) (q .0), once (p .1) (q .1))
+
+-- ---- DEMAND 2: the listing
+
+-- an accepted call lists what its own line says: the link of Table 60 at the indexes given, and each segment's position, bases and E-CIGAR
+pub accepted-call-lists-its-line : (u : Unit) (reference symbols counts : List ℕ) (state : State) (line frame : List ℕ) (next : State) → stepOf u reference symbols counts state line ≡ accepted frame next
+    → StepTaken u reference symbols counts state line frame next
+accepted-call-lists-its-line = step-taken
+
+module _ (refFile unitFile : List ℕ) where
+  -- "The reference is read first": where one of its lines is refused, the 05 line stands alone, whatever the unit file is
+  pub reference-is-read-first : (n : ℕ) → readReference (linesOf refFile) ≡ wrong n → listingOf refFile unitFile ≡ line05 0 n
+  reference-is-read-first = reference-first refFile unitFile
+
+  -- every line has lower-case digits, two a byte and no more than the limit, one 0A at its end and no zero byte
+  pub every-line-is-well-formed : Each ListingLine (linesListed refFile unitFile)
+  every-line-is-well-formed = two.every-line-is-well-formed (frontOf refFile unitFile) (front-is-lawful refFile unitFile)
+
+  -- "No 04 line needs more than 20,149 bytes with its 0A", and no other line does
+  pub no-line-is-longer : Each (λ l. length l ≤ mostListed + 1) (linesListed refFile unitFile)
+  no-line-is-longer = lines-short every-line-is-well-formed
+
+  -- no byte of a listing is zero
+  pub no-byte-is-zero : (i : ℕ) → i < length (listingOf refFile unitFile) → 0 < getD (listingOf refFile unitFile) i 0
+  no-byte-is-zero = listing-bytes (frontOf refFile unitFile) every-line-is-well-formed
+
+  -- its bytes are split into its lines in one way
+  pub lines-are-found-again : linesOf (listingOf refFile unitFile) ≡ linesListed refFile unitFile
+  lines-are-found-again = two.lines-are-found-again (frontOf refFile unitFile) (front-is-lawful refFile unitFile)
+
+  -- behind the first line every line but the last is an 04 line, and its place, from 0 on, is its record number
+  pub records-are-numbered : (i : ℕ) → suc i < length (restListed refFile unitFile) → Numbered i (getD (restListed refFile unitFile) i [])
+  records-are-numbered = two.records-are-numbered (frontOf refFile unitFile) (front-is-lawful refFile unitFile)
+
+  -- it is what the record call answers for the record's own line, and its indexes are how many symbols of each subsequence are taken so far
+  pub indexes-are-symbols-taken : (i : ℕ) → suc i < length (restListed refFile unitFile) → (o : Opened refFile unitFile) × RecordLine o i (getD (restListed refFile unitFile) i [])
+  indexes-are-symbols-taken = listing-record refFile unitFile
+
+  -- the symbols taken from a subsequence by the first k records are its first ones: in order, each once
+  pub symbols-are-taken-in-order : (o : Opened refFile unitFile) (s : ℕ) → s < subsequences → (k : ℕ) → symbolsTaken o s k ≡ take (length (symbolsTaken o s k)) (getD (o .rows) s [])
+  symbols-are-taken-in-order = taken-in-order
+
+  -- the last line is a 4-byte 05 or a 3-byte 06
+  pub last-line-closes : Closes (lastFrom (firstListed refFile unitFile) (restListed refFile unitFile))
+  last-line-closes = two.last-line-closes (frontOf refFile unitFile)
+
+  -- where it is 06, every record is listed, and every pair symbol was taken once, in order: none is left
+  pub done-takes-every-symbol : (count : ℕ) → lastFrom (firstListed refFile unitFile) (restListed refFile unitFile) ≡ line06 count → (o : Opened refFile unitFile) × AllTaken o
+  done-takes-every-symbol = listing-done refFile unitFile
+
+  -- "17 stands in no listing"
+  pub no-room-stands-nowhere : Each (λ l. (number : ℕ) → l ≡ line05 number noRoom → ⊥) (linesListed refFile unitFile)
+  no-room-stands-nowhere = two.no-room-stands-nowhere (frontOf refFile unitFile) (front-is-lawful refFile unitFile)
+
+  -- ---- how the programs make it
+
+  -- one read a reference line, into as much as a reference may have, leaves the reference at the front
+  pub reference-by-reads : (reference t : List ℕ) → readReference (linesOf refFile) ≡ good reference → length t ≡ mostReference → take (length reference) (basesInto t 0 (linesOf refFile)) ≡ reference
+  reference-by-reads reference t e long = reads-bases (linesOf refFile) t [] reference long refl e
+
+  -- one read a pair line, into a table of zeros, leaves the symbols' table
+  pub table-by-reads : (o : Opened refFile unitFile) → readsInto emptyTable 0 (o .pairs) ≡ tableOf (o .rows)
+  table-by-reads = opened-table
+
+  -- one call of `turn` a line, and one more at the end, prints the lines behind the first
+  pub calls-print-the-listing : (o : Opened refFile unitFile) → callsFor o (suc (o .unit .records)) freshState (o .lines) ≡ joined (restListed refFile unitFile)
+  calls-print-the-listing = opened-calls
+
+  -- ---- DEMAND 3: a listing that was cut off is resumed so that the two parts together are the listing
+
+  -- stopped at any byte n, with any number k of zero bytes behind it: the kept bytes and the supplied ones are the listing
+  pub resuming-makes-whole : (n k : ℕ) → resumedOf refFile unitFile (torn n k (listingOf refFile unitFile)) ≡ listingOf refFile unitFile
+  resuming-makes-whole = three.resuming-makes-whole (frontOf refFile unitFile) (front-is-lawful refFile unitFile)
+
+  -- what is supplied is exactly what is missing
+  pub supplied-is-the-rest : (n k : ℕ) → suppliedOf refFile unitFile (torn n k (listingOf refFile unitFile)) ≡ add (drop (length (kept (torn n k (listingOf refFile unitFile)))) (listingOf refFile unitFile))
+  supplied-is-the-rest = three.supplied-is-the-rest (frontOf refFile unitFile) (front-is-lawful refFile unitFile)
+
+  -- however often the listing is stopped and resumed
+  pub resuming-again-makes-whole : (stops : List (ℕ × ℕ)) → resumedAgainOf refFile unitFile stops ≡ listingOf refFile unitFile
+  resuming-again-makes-whole = three.resuming-again-makes-whole (frontOf refFile unitFile) (front-is-lawful refFile unitFile)
+
+  -- ---- what is refused, and nothing else is
+
+  -- nothing kept: the whole listing is added
+  pub nothing-kept-starts-afresh : suppliedBy refFile unitFile nothing ≡ add (listingOf refFile unitFile)
+  nothing-kept-starts-afresh = three.nothing-kept-starts-afresh (frontOf refFile unitFile)
+
+  -- 15: the first kept line is not the listing's first line, whatever the last one is
+  pub other-first-line-refused : (first last : List ℕ) → (first ≡ firstListed refFile unitFile → ⊥) → suppliedBy refFile unitFile (edges first last) ≡ refuse otherFirst
+  other-first-line-refused = three.other-first-line-refused (frontOf refFile unitFile)
+
+  -- 16: it is, and the last kept line is none of those that can be continued
+  pub other-last-line-refused : (last : List ℕ) → (Continues (frontOf refFile unitFile) last → ⊥) → suppliedBy refFile unitFile (edges (firstListed refFile unitFile) last) ≡ refuse otherLast
+  other-last-line-refused = three.other-last-line-refused (frontOf refFile unitFile) (front-is-lawful refFile unitFile)
+
+  -- there is no other refusal, and none of these two elsewhere
+  pub only-these-are-refused : (first last : List ℕ) (n : ℕ) → suppliedBy refFile unitFile (edges first last) ≡ refuse n
+      → ((n ≡ otherFirst) × (first ≡ firstListed refFile unitFile → ⊥)) ⊎ ((n ≡ otherLast) × (first ≡ firstListed refFile unitFile) × (Continues (frontOf refFile unitFile) last → ⊥))
+  only-these-are-refused = three.only-these-are-refused (frontOf refFile unitFile) (front-is-lawful refFile unitFile)
+
+  -- ---- what is added behind each sort of last line
+
+  -- after 05 nothing
+  pub nothing-after-05 : (last : List ℕ) → ClosingLine kindRefused bytes05 last → suppliedBy refFile unitFile (edges (firstListed refFile unitFile) last) ≡ add []
+  nothing-after-05 = three.nothing-after-05 (frontOf refFile unitFile) (front-is-lawful refFile unitFile)
+
+  -- after 06 nothing
+  pub nothing-after-06 : (last : List ℕ) → ClosingLine kindDone bytes06 last → suppliedBy refFile unitFile (edges (firstListed refFile unitFile) last) ≡ add []
+  nothing-after-06 = three.nothing-after-06 (frontOf refFile unitFile) (front-is-lawful refFile unitFile)
+
+  module _ (o : Opened refFile unitFile) (last : List ℕ) (line : ListedLine (o .unit .records) (countsIn (o .rows)) last) where
+    -- a well-formed 04 line is believed, whatever its record was: its number says how many 0A are passed over, and its indexes the state
+    pub well-formed-is-believed : suppliedBy refFile unitFile (edges (o .first) last)
+        ≡ add (joined (onSkip (setupIn o) (stateAt (unhex last)) (skip (bigAt 2 (unhex last) numberPlace + 1) (o .lines))))
+    well-formed-is-believed = rw (opened-front o) (three.well-formed-is-believed (setupIn o) (opened-lawful o) last line)
+
+    -- where there are as many record lines, one call of `turn` a line from that state, and one more, print what is added
+    pub calls-go-on : (ls : List (List ℕ)) → skip (bigAt 2 (unhex last) numberPlace + 1) (o .lines) ≡ some ls
+        → suppliedBy refFile unitFile (edges (o .first) last) ≡ add (callsFor o (suc (o .unit .records - (bigAt 2 (unhex last) numberPlace + 1))) (stateAt (unhex last)) ls)
+    calls-go-on = opened-goes-on o last line
+
+    -- where the record lines run out before its number, 05 with the next number and 14 is added
+    pub lines-run-out : skip (bigAt 2 (unhex last) numberPlace + 1) (o .lines) ≡ none → suppliedBy refFile unitFile (edges (o .first) last) ≡ add (line05 (bigAt 2 (unhex last) numberPlace + 1) missing)
+    lines-run-out = rw (opened-front o) (three.lines-run-out (setupIn o) (opened-lawful o) last line)
+
+  -- ---- what is kept, and where to go on: `Keep` and `place` (the pieces in which files are read are in listing's Demand3)
+
+  -- `place`, handed the two lines that `Keep` found in a found file, answers where resuming goes on
+  pub place-by-keep : (found : List ℕ) → length found ≤ mostBytes
+      → placeBy (firstListed refFile unitFile) (countOf (frontOf refFile unitFile)) (countsOf (frontOf refFile unitFile)) (edgesAt (keepAll fresh found) found) ≡ place (frontOf refFile unitFile) (edgesIn found)
+  place-by-keep = three.place-by-keep (frontOf refFile unitFile)
+
+-- a refused resume prints only 05, ffff and its number
+pub refused-prints-one-line : (q : List ℕ) (n : ℕ) → printed q (refuse n) ≡ line05 noRecord n
+refused-prints-one-line = three.refused-prints-one-line

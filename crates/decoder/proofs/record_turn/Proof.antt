@@ -1,0 +1,69 @@
+-- `decoder::record_turn` meets its contract: what the record call answers picks the case, and it has room. Assumes nothing.
+use Prim.Native.Nat.{ℕ}
+use mathlib.Core.Path.{_≡_, sym, _∙_}
+use mathlib.Core.List.{map}
+use lib.ListN.{length, length-map}
+use borrow.Kind.Array.{good-length, eInt}
+use mir.Syntax.{w32}
+use Rattle.unit.specs.State.{subsequences}
+use Rattle.decoder.proofs.TurnLaws.{record-missing, record-listed, record-refused}
+use borrow.Author.Needs.{needs}
+use Rattle.decoder.proofs.record_turn.Statement.{statement}
+use Rattle.decoder.proofs.record_turn.Tie as tie
+
+-- a state has an index for each subsequence
+eight : (start : tie.Start) → length (start .args .state .index) ≡ subsequences
+eight start =
+    let index = start .args .state .index in
+    sym (length-map index (λ (k : ℕ). k)) ∙ good-length (eInt w32) subsequences (map (λ (k : ℕ). k) index) _ (start .good .1 .1 .1 .1 .0 .1 .1 .1 .0)
+
+refuse-requires : tie.Need-refuse-requires
+refuse-requires c κs = search needs
+
+same-length : tie.Need-same-length
+same-length c = search needs
+
+returns : tie.Need-returns
+returns c = record-missing _ _ _ _ _ _ _ (c .before .before .before .before .if1 .taken) (c .before .before .refuse .ensures)
+
+record-requires : tie.Need-record-requires
+record-requires c κs = search needs
+
+enum-known-answer : tie.Need-enum-known-answer
+enum-known-answer c = search needs
+
+enum-known-answer-2 : tie.Need-enum-known-answer-2
+enum-known-answer-2 c = search needs
+
+refuse-requires-2 : tie.Need-refuse-requires-2
+refuse-requires-2 c κs = search needs
+
+same-length-2 : tie.Need-same-length-2
+same-length-2 c = search needs
+
+returns-2 : tie.Need-returns-2
+returns-2 c = let start = c .before .before .before .before .before .before .before .before .before .before .before .before .before .before in
+    record-listed _ _ _ _ _ _ _ (c .before .before .before .before .before .before .before .before .if1 .left) (eight start) (start .pre) (c .before .before .before .before .before .before .«record» .ensures) _ (c .before .answer .given .1)
+
+same-length-3 : tie.Need-same-length-3
+same-length-3 c = search needs
+
+returns-3 : tie.Need-returns-3
+returns-3 c = let start = c .before .before .before .before .before .before .before .before .before .before .before .before .before .before .before .before .before .before in
+    record-refused _ _ _ _ _ _ _ (c .before .before .before .before .before .before .before .before .before .before .before .before .if1 .left) (eight start) (start .pre) (c .before .before .before .before .before .before .before .before .before .before .«record» .ensures) _ (c .before .before .before .before .before .answer2 .given .1) (c .before .before .refuse2 .ensures)
+
+pub record-turn-spec : {M : Type 1} → statement M
+record-turn-spec =
+    tie.close
+    (tie.spec
+    refuse-requires
+    same-length
+    returns
+    record-requires
+    enum-known-answer
+    enum-known-answer-2
+    refuse-requires-2
+    same-length-2
+    returns-2
+    same-length-3
+    returns-3)

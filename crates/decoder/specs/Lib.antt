@@ -1,0 +1,4 @@
+pub mod Files
+pub mod Decoder
+pub mod Symbols
+pub mod Turned
