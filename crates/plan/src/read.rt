@@ -10,7 +10,9 @@ use unit::State;
 use unit::Unit;
 use unit::kind::Kind;
 ghost use mathlib.Core.Path.{_≡_};
+ghost use Prim.Native.Nat.{ℕ};
 ghost use Rattle.frame.specs.Hex.{unhex};
+ghost use Rattle.frame.specs.Field.{fieldAt};
 ghost use Rattle.plan.specs.Plan.{refusedReading, settled, planOf, fromKind, fromPos, fromFirst, fromSecond, finished, firstPart, secondPart};
 
 // A record as it will be listed: its pair link, its position and its segments.
@@ -83,7 +85,9 @@ fn from_kind(
 ) -> Reading
     ensures { λ r. ⌜ r ≡ fromKind unit (now (reference .entry)) (now (symbols .entry)) (now (counts .entry)) state (unhex (now (line .entry))) ⌝ }
 {
-    let Field::Value(kind, c) = frame::field::read_u8(line, Cursor { at: 0 }) else {
+    let head = reader::head::read(line);
+    let field = head.kind;
+    let Field::Value(kind, _) = field else {
         return refused(refusal::MISFRAMED, state);
     };
     if kind != Kind::RECORD {
@@ -95,17 +99,18 @@ fn from_kind(
     match answer {
         Answer::Refused(n) => refused(n, state),
         Answer::Linked(link) => {
-            let planned = from_pos(unit, reference, line, link, c);
+            let pos = head.pos;
+            let planned = from_pos(unit, reference, line, link, pos);
             settle(planned, next, state)
         }
     }
 }
 
-// The position, which is 0 in class U.
-fn from_pos(unit: Unit, reference: &[u8], line: &[u8], link: Link, c: Cursor) -> Planned
-    ensures { λ r. ⌜ r ≡ fromPos unit (now (reference .entry)) (unhex (now (line .entry))) link (c .at) ⌝ }
+// The position, which is 0 in class U. Its field, read with the kind, is looked at only now: the pair symbols come first.
+fn from_pos(unit: Unit, reference: &[u8], line: &[u8], link: Link, field: Field) -> Planned
+    ensures { λ r. ⌜ ((at : ℕ) → field ≡ fieldAt 4 (unhex (now (line .entry))) at → r ≡ fromPos unit (now (reference .entry)) (unhex (now (line .entry))) link at) ⌝ }
 {
-    let Field::Value(pos, next) = frame::field::read_u32(line, c) else {
+    let Field::Value(pos, next) = field else {
         return Planned::Refused(refusal::MISFRAMED);
     };
     if unit.class == Unit::U {

@@ -1,4 +1,5 @@
 -- `plan::read::from_kind` meets its contract: the field, the kind, then the pair answer. Assumes nothing.
+use Rattle.reader.proofs.HeadLaws.{head-kind, head-pos}
 use Rattle.unit.proofs.StepLaws.{steps}
 use Rattle.plan.proofs.Steps.{linked, unlinked}
 use Rattle.plan.specs.Plan.{fromKind}
@@ -6,11 +7,11 @@ use borrow.Author.Needs.{needs}
 use Rattle.plan.proofs.read.from_kind.Statement.{statement}
 use Rattle.plan.proofs.read.from_kind.Tie as tie
 
-read-u8-requires : tie.Need-read-u8-requires
-read-u8-requires c κs = search needs
+read-requires : tie.Need-read-requires
+read-requires c κs = search needs
 
-enum-known-kind : tie.Need-enum-known-kind
-enum-known-kind c = search needs
+enum-known-field : tie.Need-enum-known-field
+enum-known-field c = search needs
 
 enum-told : tie.Need-enum-told
 enum-told c = search needs
@@ -20,14 +21,14 @@ refused-requires c κs = search needs
 
 returns : tie.Need-returns
 unfolding fromKind
-returns c = search steps
+returns c = search (steps, head-kind)
 
 refused-requires-2 : tie.Need-refused-requires-2
 refused-requires-2 c κs = search needs
 
 returns-2 : tie.Need-returns-2
 unfolding fromKind
-returns-2 c = search steps
+returns-2 c = search (steps, head-kind)
 
 pair-requires : tie.Need-pair-requires
 pair-requires c κs = search needs
@@ -49,18 +50,19 @@ settle-requires c κs = search needs
 
 returns-3 : tie.Need-returns-3
 unfolding fromKind
-returns-3 c = search (steps, unlinked)
+returns-3 c = search (steps, head-kind, unlinked)
 
+-- the head's second field is the one that stands where the kind ends
 returns-4 : tie.Need-returns-4
 unfolding fromKind
-returns-4 c = search (steps, linked)
+returns-4 c = search (steps, head-kind, linked, c .before .from-pos .ensures, head-pos)
 
 pub from-kind-spec : {M : Type 1} → statement M
 from-kind-spec =
     tie.close
     (tie.spec
-    read-u8-requires
-    enum-known-kind
+    read-requires
+    enum-known-field
     enum-told
     refused-requires
     returns
