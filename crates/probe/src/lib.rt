@@ -1,4 +1,2 @@
-// Entry points for tests and benchmarks, as a C program can call them: no part of the product.
-pub mod pair;
-pub mod segment_call;
+// Entry points for benchmarks of the text layer, as a C program can call them: no part of the product.
 pub mod text;

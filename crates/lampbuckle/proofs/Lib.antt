@@ -1,0 +1,9 @@
+pub mod AnswerLaws
+pub mod NumberLaws
+pub mod LineLaws
+pub mod CallLaws
+pub mod WriteLaws
+pub mod ResumeLaws
+pub mod Kept
+pub mod Shapes
+pub mod Unique

@@ -1,0 +1,45 @@
+-- Each call's promise admits one outcome: two outcomes that keep it, each an answer and every lent slice after the call, are the same.
+-- Assumes nothing.
+use mathlib.Core.Path.{_≡_, sym, _∙_}
+use mathlib.Core.List.{List}
+use Prim.Native.Nat.{ℕ}
+use Rattle.listing.specs.Listing.{frame05, frame06}
+use Rattle.lampbuckle.specs.Answer.{Outcome}
+use Rattle.lampbuckle.specs.Lines.{unitCall, pairCall, referenceCall}
+use Rattle.lampbuckle.specs.Call.{recordCall}
+use Rattle.lampbuckle.specs.Write.{writtenCall, unitWritten}
+use Rattle.lampbuckle.specs.Resume.{keepCall, placeCall, passCall}
+
+once : {x y z : Outcome} → x ≡ z → y ≡ z → x ≡ y
+once p q = p ∙ sym q
+
+module _ {x y : Outcome} where
+  pub unit-line-once : (line unit : List ℕ) → x ≡ unitCall line unit → y ≡ unitCall line unit → x ≡ y
+  unit-line-once line unit = once
+
+  pub pair-line-once : (line : List ℕ) (subsequence : ℕ) (symbols counts : List ℕ) → x ≡ pairCall line subsequence symbols counts → y ≡ pairCall line subsequence symbols counts → x ≡ y
+  pair-line-once line subsequence symbols counts = once
+
+  pub reference-line-once : (line reference : List ℕ) (used : ℕ) → x ≡ referenceCall line reference used → y ≡ referenceCall line reference used → x ≡ y
+  reference-line-once line reference used = once
+
+  pub record-once : (unit reference symbols counts state line out : List ℕ) → x ≡ recordCall unit reference symbols counts state line out → y ≡ recordCall unit reference symbols counts state line out → x ≡ y
+  record-once unit reference symbols counts state line out = once
+
+  pub write-unit-once : (unit out : List ℕ) → x ≡ unitWritten unit out → y ≡ unitWritten unit out → x ≡ y
+  write-unit-once unit out = once
+
+  pub write-refused-once : (number refusal : ℕ) (out : List ℕ) → x ≡ writtenCall (frame05 number refusal) out → y ≡ writtenCall (frame05 number refusal) out → x ≡ y
+  write-refused-once number refusal out = once
+
+  pub write-done-once : (count : ℕ) (out : List ℕ) → x ≡ writtenCall (frame06 count) out → y ≡ writtenCall (frame06 count) out → x ≡ y
+  write-done-once count out = once
+
+  pub keep-once : (piece keep : List ℕ) → x ≡ keepCall piece keep → y ≡ keepCall piece keep → x ≡ y
+  keep-once piece keep = once
+
+  pub place-once : (listed : List ℕ) (count : ℕ) (counts first last state : List ℕ) → x ≡ placeCall listed count counts first last state → y ≡ placeCall listed count counts first last state → x ≡ y
+  place-once listed count counts first last state = once
+
+  pub pass-once : (piece wanted : List ℕ) → x ≡ passCall piece wanted → y ≡ passCall piece wanted → x ≡ y
+  pass-once piece wanted = once

@@ -1,0 +1,77 @@
+-- `lampbuckle::call::lampbuckle_record` meets its contract, by the test of the shape and by what the record call answered. Assumes nothing.
+use native.Mathlib.Omega.{arith}
+use denote.Ref.{now}
+use Rattle.lampbuckle.proofs.AnswerLaws.{told}
+use Rattle.lampbuckle.proofs.CallLaws.{record-misshapen, record-refused, record-listed, record-counted, record-nine}
+use borrow.Author.Needs.{needs}
+use Rattle.lampbuckle.proofs.call.lampbuckle_record.Statement.{statement}
+use Rattle.lampbuckle.proofs.call.lampbuckle_record.Tie as tie
+
+refused-requires : tie.Need-refused-requires
+refused-requires c κs = search needs
+
+returns : tie.Need-returns
+returns c = record-misshapen _ _ _ _ _ _ _ (c .before .if1 .taken) (told (c .refused .ok) (c .refused .ensures))
+
+read-unit-requires : tie.Need-read-unit-requires
+read-unit-requires c κs = search needs
+
+read-state-requires : tie.Need-read-state-requires
+read-state-requires c κs = search needs
+
+record-requires : tie.Need-record-requires
+record-requires c κs = search needs
+
+enum-known-answer : tie.Need-enum-known-answer
+enum-known-answer c = search needs
+
+refused-requires-2 : tie.Need-refused-requires-2
+refused-requires-2 c κs = search needs
+
+enum-known-answer-2 : tie.Need-enum-known-answer-2
+enum-known-answer-2 c = search needs
+
+lay-state-requires : tie.Need-lay-state-requires
+lay-state-requires c κs = let a = c .before .before .before .before .before .before .before .before .before .before .before .before .before .before .before .before .before .before .before .before .args in record-nine (now (a .unit)) _ _ _ (now (a .state)) _ (now (a .out)) (c .before .before .before .before .before .before .before .before .before .before .before .read-unit .ensures) (c .before .before .before .before .before .before .before .before .before .read-state .ensures) (c .before .before .before .before .before .before .before .«record» .ensures) (c .before .before .answer2 .given .1)
+
+counted-requires : tie.Need-counted-requires
+counted-requires c κs = let s = c .before .before .before .before .before .before .before .before .before .before .before .before .before .before .before .before .before .before .before .before .before .before .before in record-counted (now (s .args .unit)) _ _ _ (now (s .args .state)) _ (now (s .args .out)) (c .before .before .before .before .before .before .before .before .before .before .before .before .before .before .read-unit .ensures) (c .before .before .before .before .before .before .before .before .before .before .before .before .read-state .ensures) (c .before .before .before .before .before .before .before .before .before .before .«record» .ensures) (c .before .before .before .before .before .answer2 .given .1) (omega (arith, s .good .1 .1 .1 .1 .1 .1 .0))
+
+same-length : tie.Need-same-length
+same-length c = search needs
+
+same-length-2 : tie.Need-same-length-2
+same-length-2 c = search needs
+
+returns-2 : tie.Need-returns-2
+returns-2 c = record-refused _ _ _ _ _ _ _ (c .before .before .before .before .before .before .before .before .before .before .before .read-unit .ensures) (c .before .before .before .before .before .before .before .before .before .read-state .ensures) (c .before .before .before .before .before .before .before .«record» .ensures) (c .before .before .before .before .before .before .before .before .before .before .before .before .if1 .left) (c .before .before .answer .given .1) (told (c .refused2 .ok) (c .refused2 .ensures))
+
+same-length-3 : tie.Need-same-length-3
+same-length-3 c = search needs
+
+same-length-4 : tie.Need-same-length-4
+same-length-4 c = search needs
+
+returns-3 : tie.Need-returns-3
+returns-3 c = record-listed _ _ _ _ _ _ _ (c .before .before .before .before .before .before .before .before .before .before .before .before .before .before .before .read-unit .ensures) (c .before .before .before .before .before .before .before .before .before .before .before .before .before .read-state .ensures) (c .before .before .before .before .before .before .before .before .before .before .before .«record» .ensures) (c .before .before .before .before .before .before .before .before .before .before .before .before .before .before .before .before .if1 .left) (c .before .before .before .before .before .before .answer2 .given .1) (c .before .before .before .lay-state .ensures) (told (c .counted .ok) (c .counted .ensures))
+
+pub lampbuckle-record-spec : {M : Type 1} → statement M
+lampbuckle-record-spec =
+    tie.close
+    (tie.spec
+    refused-requires
+    returns
+    read-unit-requires
+    read-state-requires
+    record-requires
+    enum-known-answer
+    refused-requires-2
+    enum-known-answer-2
+    lay-state-requires
+    counted-requires
+    same-length
+    same-length-2
+    returns-2
+    same-length-3
+    same-length-4
+    returns-3)

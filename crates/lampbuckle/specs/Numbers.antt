@@ -1,0 +1,76 @@
+-- A unit, a state and what is known of a found file, as the numbers that C lends.
+-- Assumes nothing.
+use Prim.Native.Nat.{ℕ, suc}
+use mathlib.Core.Bool.{Bool, cond, not}
+use mathlib.Core.List.{List, [], _∷_}
+use lib.Dec.{eqb}
+use lib.ListN.{length, getD, drop, replicate}
+use Rattle.refusal.specs.Numbers.{unitOut}
+use Rattle.unit.specs.Unit.{mostRecords, unitRefusal}
+use Rattle.unit.specs.State.{subsequences}
+use Rattle.unit.specs.declared.Unit.{Unit}
+use Rattle.unit.specs.declared.State.{State}
+use Rattle.listing.specs.declared.keep.Keep.{Keep}
+
+-- the numbers of a unit: the values of the unit line, in its order (document 01, Lines: 01 unit)
+abbrev pub unitLength : ℕ
+unitLength = 8
+
+abbrev pub unitNumbers : Unit → List ℕ
+unitNumbers u =
+    u .class ∷ u .alphabet ∷ u .segments ∷ u .sequence ∷ u .first ∷ u .start ∷ u .end ∷ u .records ∷ []
+
+-- the unit that lent numbers are
+abbrev pub unitOf : List ℕ → Unit
+unitOf numbers =
+    record {
+      class = getD numbers 0 0;
+      alphabet = getD numbers 1 0;
+      segments = getD numbers 2 0;
+      sequence = getD numbers 3 0;
+      first = getD numbers 4 0;
+      start = getD numbers 5 0;
+      end = getD numbers 6 0;
+      records = getD numbers 7 0;
+    }
+
+-- numbers of another shape, or a value outside its range: 3
+unfoldable pub unitNumbersRefusal : List ℕ → ℕ
+unitNumbersRefusal numbers = cond (eqb (length numbers) unitLength) (unitRefusal (unitOf numbers)) unitOut
+
+-- the numbers of a state: the record number and the eight indexes (document 01, Order)
+abbrev pub stateLength : ℕ
+stateLength = suc subsequences
+
+abbrev pub stateNumbers : State → List ℕ
+stateNumbers st = st .number ∷ st .index
+
+-- a state that no unit has: its number is not below any record count
+abbrev pub noState : State
+noState = record { number = mostRecords; index = replicate subsequences 0 }
+
+-- the state that lent numbers are; those of another shape are none that a unit has, so that they are refused by 14 in its place
+unfoldable pub stateOf : List ℕ → State
+stateOf numbers = cond (eqb (length numbers) stateLength) (record { number = getD numbers 0 0; index = drop 1 numbers }) noState
+
+-- the numbers of what is known of a found file: the length of its first kept line, where its last kept line starts, how many bytes are kept, how many are counted, and whether nothing that follows is kept
+abbrev pub keepLength : ℕ
+keepLength = 5
+
+-- 1 for true
+abbrev pub flag : Bool → ℕ
+flag b = cond b 1 0
+
+abbrev pub keepNumbers : Keep → List ℕ
+keepNumbers k = k .first ∷ k .last ∷ k .kept ∷ k .seen ∷ flag (k .done) ∷ []
+
+-- what lent numbers say; five zeros say that nothing is read
+abbrev pub keepOf : List ℕ → Keep
+keepOf numbers =
+    record {
+      first = getD numbers 0 0;
+      last = getD numbers 1 0;
+      kept = getD numbers 2 0;
+      seen = getD numbers 3 0;
+      done = not (eqb (getD numbers 4 0) 0);
+    }

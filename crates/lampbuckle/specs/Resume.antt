@@ -1,0 +1,72 @@
+-- The calls for going on with a listing that was stopped (document 01, Resuming).
+-- Assumes nothing.
+use Prim.Native.Nat.{ℕ}
+use mathlib.Core.Bool.{cond}
+use mathlib.Core.List.{List, [], _∷_}
+use lib.Dec.{eqb}
+use lib.ListN.{length, getD}
+use Rattle.refusal.specs.Numbers.{countOut, missing}
+use Rattle.unit.specs.State.{subsequences}
+use Rattle.unit.specs.declared.State.{State}
+use Rattle.listing.specs.Keep.{keepAll}
+use Rattle.listing.specs.Pass.{passOver}
+use Rattle.listing.specs.Resuming.{edgesFrom, placeBy}
+use Rattle.listing.specs.Last.{placedOf}
+use Rattle.listing.specs.declared.keep.Keep.{Keep}
+use Rattle.listing.specs.declared.pass.Passed.{Passed}
+use Rattle.listing.specs.declared.place.Go.{Go}
+use Rattle.listing.specs.declared.place.Go.the-variants.{Afresh, Second, On, Over, Refused}
+use Rattle.listing.specs.declared.place.Placed.{Placed}
+use Rattle.lampbuckle.specs.Answer.{Outcome, counts, refuses}
+use Rattle.lampbuckle.specs.Numbers.{stateLength, stateNumbers, keepLength, flag, keepNumbers, keepOf}
+
+-- ---- what is kept, read in pieces
+
+-- 1 where nothing that follows is kept, else 0; and what is known now
+abbrev pub keepAnswered : Keep → Outcome
+keepAnswered k = counts (flag (k .done)) (keepNumbers k ∷ [])
+
+-- numbers of another shape are refused by 14
+unfoldable pub keepCall : List ℕ → List ℕ → Outcome
+keepCall piece lent =
+    cond (eqb (length lent) keepLength) (keepAnswered (keepAll (keepOf lent) piece)) (refuses missing (lent ∷ []))
+
+-- ---- where to go on
+
+-- the number of the place, and the state to go on from
+abbrev pub goesOn : ℕ → State → Outcome
+goesOn number next = counts number (stateNumbers next ∷ [])
+
+abbrev pub byGo : Go → State → List ℕ → Outcome
+byGo Afresh next lent = goesOn 0 next
+byGo Second next lent = goesOn 1 next
+byGo On next lent = goesOn 2 next
+byGo Over next lent = goesOn 3 next
+byGo (Refused n) next lent = refuses n (lent ∷ [])
+
+abbrev pub placeAnswered : Placed → List ℕ → Outcome
+placeAnswered p lent = byGo (p .go) (p .state) lent
+
+-- counts of another shape are refused by 4, a state by 14; then 15 and 16
+unfoldable pub placeCall : List ℕ → ℕ → List ℕ → List ℕ → List ℕ → List ℕ → Outcome
+placeCall listed count all first last lent =
+    cond (eqb (length all) subsequences)
+    (cond (eqb (length lent) stateLength)
+    (placeAnswered (placedOf (placeBy listed count all (edgesFrom first last))) lent)
+    (refuses missing (lent ∷ [])))
+    (refuses countOut (lent ∷ []))
+
+-- ---- lines passed over by their 0A, in pieces
+
+-- the one number that says how often 0A is wanted
+abbrev pub wantedLength : ℕ
+wantedLength = 1
+
+-- how many bytes are passed over, and how often 0A is wanted then
+abbrev pub passAnswered : Passed → Outcome
+passAnswered p = counts (p .at) ((p .left ∷ []) ∷ [])
+
+-- numbers of another shape are refused by 14
+unfoldable pub passCall : List ℕ → List ℕ → Outcome
+passCall piece lent =
+    cond (eqb (length lent) wantedLength) (passAnswered (passOver (getD lent 0 0) piece)) (refuses missing (lent ∷ []))

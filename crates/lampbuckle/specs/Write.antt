@@ -1,0 +1,33 @@
+-- The calls that write a line of the listing (document 01, The listing).
+-- Assumes nothing.
+use Prim.Native.Nat.{ℕ, _^_, _<_}
+use mathlib.Core.Bool.{cond}
+use mathlib.Core.List.{List, [], _∷_}
+use lib.Dec.{eqb}
+use lib.IntN.{ℤ, pos}
+use Rattle.refusal.specs.Numbers.{fine, noRoom}
+use Rattle.frame.specs.Whole.{wroteOf, lineInto}
+use Rattle.frame.specs.declared.lay.Wrote.{Wrote}
+use Rattle.frame.specs.declared.lay.Wrote.the-variants.{Line, NoRoom}
+use Rattle.unit.specs.UnitLine.{unitBytes}
+use Rattle.lampbuckle.specs.Answer.{Outcome, outcome, minus, refuses}
+use Rattle.lampbuckle.specs.Numbers.{unitOf, unitNumbersRefusal}
+
+-- the line's bytes, its 0A among them; 17 where less is lent
+abbrev pub wrote : Wrote → ℤ
+wrote (Line n) = pos n
+wrote NoRoom = minus noRoom
+
+-- so many bytes as a signed integer can say
+abbrev pub Countable : Wrote → Type 0
+Countable (Line n) = n < 2 ^ 63
+Countable NoRoom = Unit {0}
+
+-- a frame's line at the front of what is lent, and nothing behind it
+unfoldable pub writtenCall : List ℕ → List ℕ → Outcome
+writtenCall frame out = outcome (wrote (wroteOf out frame)) (lineInto out frame ∷ [])
+
+-- the unit line, where the numbers are a unit's (else 3)
+unfoldable pub unitWritten : List ℕ → List ℕ → Outcome
+unitWritten numbers out =
+    cond (eqb (unitNumbersRefusal numbers) fine) (writtenCall (unitBytes (unitOf numbers)) out) (refuses (unitNumbersRefusal numbers) (out ∷ []))

@@ -1,0 +1,63 @@
+-- `stream::source::pass_lines` is safe and ends. The measure is the number of turns that are left. Assumes nothing.
+use mathlib.Core.Path.{_≡_}
+use borrow.Author.Needs.{needs}
+use lib.ListN.{length}
+use Rattle.stream.proofs.source.pass_lines.Statement.{statement}
+use Rattle.stream.proofs.source.pass_lines.Tie as tie
+
+abbrev Inv-loop : tie.InvT-loop
+Inv-loop buf₀ want p₀ turns₀ buf p turns = length buf ≡ length buf₀
+
+abbrev μ-loop : tie.MeasureT-loop
+μ-loop buf₀ want p₀ turns₀ buf p turns = turns
+
+loop-holds : tie.Need-loop-holds Inv-loop μ-loop
+loop-holds c = search needs
+
+same-length : tie.Need-same-length Inv-loop μ-loop
+same-length c = search needs
+
+returns : tie.Need-returns Inv-loop μ-loop
+returns c = search needs
+
+pass-piece-requires : tie.Need-pass-piece-requires Inv-loop μ-loop
+pass-piece-requires c κs = search needs
+
+same-length-2 : tie.Need-same-length-2 Inv-loop μ-loop
+same-length-2 c = search needs
+
+returns-2 : tie.Need-returns-2 Inv-loop μ-loop
+returns-2 c = search needs
+
+sub-turns : tie.Need-sub-turns Inv-loop μ-loop
+sub-turns c = search needs
+
+loop-less : tie.Need-loop-less Inv-loop μ-loop
+loop-less c = search needs
+
+loop-again : tie.Need-loop-again Inv-loop μ-loop
+loop-again c = search needs
+
+same-length-3 : tie.Need-same-length-3 Inv-loop μ-loop
+same-length-3 c = search needs
+
+returns-3 : tie.Need-returns-3 Inv-loop μ-loop
+returns-3 c = search needs
+
+pub pass-lines-spec : {M : Type 1} → statement M
+pass-lines-spec =
+    tie.close
+    (tie.spec
+    Inv-loop
+    μ-loop
+    loop-holds
+    same-length
+    returns
+    pass-piece-requires
+    same-length-2
+    returns-2
+    sub-turns
+    loop-less
+    loop-again
+    same-length-3
+    returns-3)

@@ -1,0 +1,258 @@
+// The lines of a listing, gathered as they are made: the first by the front of the files, the others by one call a line of the unit file.
+use crate::front::Front;
+use crate::front::Opened;
+use decoder::Added;
+use decoder::turn;
+use frame::lay::Wrote;
+use listing::close;
+use stream::sink::Sink;
+use stream::sink::with_refused;
+use stream::source::Source;
+use stream::source::pass_lines;
+use stream::source::take;
+use unit::State;
+use unit::Unit;
+use unit::unit_line;
+ghost use mathlib.Core.Path.{_≡_};
+ghost use Rattle.supply.specs.Rest.{firstWrote, firstInto};
+
+// How far a listing has come.
+pub struct Run {
+    pub state: State,
+    pub source: Source,
+    pub sink: Sink,
+    // Nothing follows: the last line is made, or a read or a write failed.
+    pub over: bool,
+}
+
+// What one line of the unit file adds to a listing.
+struct Listed {
+    state: State,
+    sink: Sink,
+    over: bool,
+}
+
+// The listing's first line, at the front of what is lent.
+pub fn write_first(out: &mut [u8], front: Front) -> Wrote
+    ensures { λ r. ⌜ r ≡ firstWrote (now (out .entry)) front ⌝ }
+    ensures { λ _. ⌜ now (out .exit) ≡ firstInto (now (out .entry)) front ⌝ }
+{
+    match front {
+        Front::Alone(n) => close::write_refused(out, 0, n),
+        Front::Unpaired(unit, _) => unit_line::write(out, unit),
+        Front::Ready(unit) => unit_line::write(out, unit),
+        Front::Unread => Wrote::NoRoom,
+    }
+}
+
+pub fn with_first(k: Sink, out: &mut [u8], front: Front) -> Sink {
+    let roomy = k.roomy(out);
+    let used = roomy.used;
+    let wrote = write_first(&mut out[used..], front);
+    roomy.with(wrote, out)
+}
+
+fn stopped(state: State, source: Source, sink: Sink) -> Run {
+    Run {
+        state,
+        source,
+        sink,
+        over: true,
+    }
+}
+
+// One line of the unit file, or its end, an empty slice.
+fn list_line(
+    unit: Unit,
+    reference: &[u8],
+    symbols: &[u32],
+    counts: &[u32],
+    state: State,
+    line: &[u8],
+    k: Sink,
+    out: &mut [u8],
+) -> Listed {
+    let sink = k.roomy(out);
+    let used = sink.used;
+    let turned = turn(
+        unit,
+        reference,
+        symbols,
+        counts,
+        state,
+        line,
+        &mut out[used..],
+    );
+    let added = turned.added;
+    let next = turned.state;
+    match added {
+        Added::Go(n) => Listed {
+            state: next,
+            sink: sink.longer(n, out),
+            over: false,
+        },
+        Added::Stop(n) => Listed {
+            state: next,
+            sink: sink.longer(n, out),
+            over: true,
+        },
+        Added::NoRoom => Listed {
+            state: next,
+            sink: Sink::stopped(),
+            over: true,
+        },
+    }
+}
+
+// The next line of the unit file.
+fn step(
+    unit: Unit,
+    reference: &[u8],
+    symbols: &[u32],
+    counts: &[u32],
+    run: Run,
+    buf: &mut [u8],
+    out: &mut [u8],
+) -> Run {
+    let state = run.state;
+    let sink = run.sink;
+    let line = take(run.source, buf);
+    let source = line.source;
+    if source.failed {
+        return stopped(state, source, sink);
+    }
+    let from = line.from;
+    let to = line.to;
+    let listed = list_line(
+        unit,
+        reference,
+        symbols,
+        counts,
+        state,
+        &buf[from..to],
+        sink,
+        out,
+    );
+    let next = listed.state;
+    let longer = listed.sink;
+    Run {
+        state: next,
+        source,
+        sink: longer,
+        over: listed.over,
+    }
+}
+
+// A turn for each record that is left, and one for the last line.
+fn turns(records: u32, number: u32) -> usize {
+    if records < number {
+        return 1;
+    }
+    (records - number) as usize + 1
+}
+
+// The lines from a state on, where the unit file stands at its record.
+fn records(
+    unit: Unit,
+    reference: &[u8],
+    symbols: &[u32],
+    counts: &[u32],
+    start: Run,
+    buf: &mut [u8],
+    out: &mut [u8],
+) -> Run {
+    let mut run = start;
+    let mut left = turns(unit.records, start.state.number);
+    while left > 0 {
+        if run.over {
+            return run;
+        }
+        if run.sink.failed {
+            return run;
+        }
+        run = step(unit, reference, symbols, counts, run, buf, out);
+        left -= 1;
+    }
+    run
+}
+
+// The record lines before the state's are passed over; where they run out, the next one is missing.
+fn records_from(
+    unit: Unit,
+    reference: &[u8],
+    symbols: &[u32],
+    counts: &[u32],
+    start: Run,
+    buf: &mut [u8],
+    out: &mut [u8],
+) -> Run {
+    let state = start.state;
+    let sink = start.sink;
+    let passed = pass_lines(start.source, buf, state.number as usize);
+    let source = passed.source;
+    if source.failed {
+        return stopped(state, source, sink);
+    }
+    if passed.left > 0 {
+        let refused = with_refused(sink, out, state.number, refusal::MISSING);
+        return stopped(state, source, refused);
+    }
+    let run = Run {
+        state,
+        source,
+        sink,
+        over: false,
+    };
+    records(unit, reference, symbols, counts, run, buf, out)
+}
+
+// The bases that the reference has, of all that are lent.
+fn bases_of(reference: &[u8], bases: usize) -> &[u8] {
+    if bases <= reference.len() {
+        return &reference[0..bases];
+    }
+    reference
+}
+
+// The lines behind the first, from a state on.
+pub fn rest(
+    opened: Opened,
+    reference: &[u8],
+    symbols: &[u32],
+    state: State,
+    sink: Sink,
+    buf: &mut [u8],
+    out: &mut [u8],
+) -> Run {
+    let front = opened.front;
+    let source = opened.source;
+    let counts = opened.counts;
+    let bases = bases_of(reference, opened.bases);
+    match front {
+        Front::Ready(unit) => {
+            let start = Run {
+                state,
+                source,
+                sink,
+                over: false,
+            };
+            records_from(unit, bases, symbols, &counts, start, buf, out)
+        }
+        Front::Unpaired(_, n) => {
+            let refused = with_refused(sink, out, 0, n);
+            stopped(state, source, refused)
+        }
+        Front::Alone(_) => stopped(state, source, sink),
+        Front::Unread => stopped(state, source, sink),
+    }
+}
+
+// Writes what is gathered. Where the unit file cannot be read on, that is said instead, and the listing stops as at a power failure.
+pub fn finish(run: Run, unit_path: &[u8], out: &[u8]) {
+    let source = run.source;
+    if source.failed {
+        os::fail(unit_path);
+        return;
+    }
+    run.sink.flushed(out);
+}

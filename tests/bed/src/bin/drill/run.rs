@@ -1,0 +1,107 @@
+//! Running the two programs on files in a folder of this run.
+
+use bed::cases::valid_case;
+use bed::{listing_case, Files, Rng};
+use std::path::PathBuf;
+use std::process::{Command, Output, Stdio};
+
+pub struct Programs {
+    pub list: PathBuf,
+    pub resume: PathBuf,
+    pub seed: u64,
+    pub folder: PathBuf,
+}
+
+impl Programs {
+    pub fn from_arguments() -> Option<Programs> {
+        let mut arguments = std::env::args().skip(1);
+        let (list, resume) = (arguments.next()?.into(), arguments.next()?.into());
+        let seed = match arguments.next().as_deref() {
+            None => 1,
+            Some("--seed") => arguments.next()?.parse().ok()?,
+            Some(_) => return None,
+        };
+        let folder = std::env::temp_dir().join(format!("drill-{}", std::process::id()));
+        std::fs::create_dir_all(&folder).ok()?;
+        Some(Programs { list, resume, seed, folder })
+    }
+
+    pub fn clear(&self) {
+        // What is left of a run harms nobody: the folder's name is this run's own.
+        let _ = std::fs::remove_dir_all(&self.folder);
+    }
+
+    pub fn rng(&self, drill: u64) -> Rng {
+        Rng::for_case(self.seed, drill)
+    }
+
+    pub fn write(&self, name: &str, bytes: &[u8]) -> PathBuf {
+        let path = self.folder.join(name);
+        std::fs::write(&path, bytes).expect("the folder for temporary files takes what is written");
+        path
+    }
+
+    /// The reference and unit files, written down.
+    pub fn write_unit(&self, files: &Files) -> [PathBuf; 2] {
+        [self.write("reference.hex", &files.reference), self.write("unit.hex", &files.unit)]
+    }
+
+    /// `list` on two files.
+    pub fn list(&self, paths: &[PathBuf; 2]) -> Output {
+        output(Command::new(&self.list).args(paths))
+    }
+
+    /// `resume` on two files and what was found.
+    pub fn resume(&self, paths: &[PathBuf; 2], found: &[u8]) -> Output {
+        let found = self.write("found.hex", found);
+        output(Command::new(&self.resume).args(paths).arg(found))
+    }
+}
+
+pub fn output(command: &mut Command) -> Output {
+    command.stdin(Stdio::null()).output().expect("the program runs")
+}
+
+/// Units whose listing is short, in order and damaged by turns.
+pub fn small_units(seed: u64, count: usize, longest: usize) -> Vec<Files> {
+    let unit = |case: u64| if case % 2 == 0 { valid_case(seed, case).1 } else { listing_case(seed, case) };
+    let short = |files: &Files| (60..longest).contains(&files.expected().len());
+    (0..).map(unit).filter(short).take(count).collect()
+}
+
+/// The largest unit there is.
+pub fn largest_unit() -> Files {
+    unit_of(1_024)
+}
+
+/// Records of two segments, each of 1,000 bases and as many edits: no record is longer.
+pub fn unit_of(records: usize) -> Files {
+    let mut unit = format!("010400020001000003e8000003e8000007cf{records:04x}\n");
+    for subsequence in 0..2 {
+        unit += &format!("02{subsequence:02x}{records:04x}{}\n", "00000000".repeat(records));
+    }
+    for subsequence in 2..8 {
+        unit += &format!("02{subsequence:02x}0000\n");
+    }
+    let edits: String = (0..1_000).map(|offset| format!("{offset:04x}00{:02x}", offset % 4)).collect();
+    let block = format!("03e800{}03e8{edits}", "0".repeat(16));
+    unit += &format!("03000003e8{block}{block}\n").repeat(records);
+    let reference = format!("07{}\n", "00010203".repeat(250));
+    Files { reference: reference.into_bytes(), unit: unit.into_bytes(), found: None }
+}
+
+/// An error where a program did not print this.
+pub fn printed(output: &Output, expected: &[u8], what: impl Fn() -> String) -> Result<(), String> {
+    if output.stdout == expected && output.status.success() {
+        return Ok(());
+    }
+    let same = output.stdout.iter().zip(expected).take_while(|(one, other)| one == other).count();
+    Err(format!(
+        "{}: {} bytes printed for {}, which part at byte {same}; {}; {}",
+        what(),
+        output.stdout.len(),
+        expected.len(),
+        output.status,
+        String::from_utf8_lossy(&output.stderr).trim_end(),
+    ))
+}

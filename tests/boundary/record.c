@@ -1,0 +1,211 @@
+/* The record call: document 01's example, each refusal, and of two faults the one that its Order names first. */
+#include <string.h>
+
+#include "boundary.h"
+
+enum { UNIT, REFERENCE, SYMBOLS, COUNTS, STATE, LINE, OUT };
+
+static int64_t record(const struct lent *l, const uint64_t *numbers)
+{
+    (void)numbers;
+    return lampbuckle_record(l[UNIT].at, l[UNIT].count, l[REFERENCE].at, l[REFERENCE].count, l[SYMBOLS].at, l[SYMBOLS].count, l[COUNTS].at, l[COUNTS].count, l[STATE].at,
+        l[STATE].count, l[LINE].at, l[LINE].count, l[OUT].at, l[OUT].count);
+}
+
+static const uint32_t unit[9] = {3, 0, 1, 2, 100, 100, 109, 1};
+static uint8_t bases[LAMPBUCKLE_REFERENCE + 1] = {0, 1, 2, 3, 0, 1, 2, 3};
+static uint32_t table[LAMPBUCKLE_TABLE + 1];
+static const uint32_t none[9], first[9] = {1};
+static char room[LAMPBUCKLE_LISTED];
+static const char line[] = "03000000660008000002000100000401\n";
+static const char listed[] = "04000000000000000000000000000000000000010001000000000000000000660000084741414343544e4e0008313d41323d43333d\n";
+
+static struct slice numbers(const uint32_t *elements, size_t count)
+{
+    return (struct slice){elements, count, sizeof *elements, NULL, 0, 0};
+}
+
+static struct slice text(const char *t)
+{
+    return (struct slice){t, strlen(t), 1, NULL, 0, 0};
+}
+
+/* Document 01's example. */
+static struct call good(const char *name)
+{
+    struct call c = {name, record, {0}, {numbers(unit, LAMPBUCKLE_UNIT), {bases, 8, 1, NULL, 0, 0}, numbers(table, LAMPBUCKLE_TABLE), numbers(none, LAMPBUCKLE_SUBSEQUENCES),
+        numbers(none, LAMPBUCKLE_STATE), BYTES(line), {room, sizeof room, 1, NULL, 0, 0}}, 7, sizeof listed - 1};
+    c.slices[STATE] = becomes(c.slices[STATE], first, 0, LAMPBUCKLE_STATE * sizeof *first);
+    c.slices[OUT] = becomes(c.slices[OUT], listed, 0, sizeof listed - 1);
+    return c;
+}
+
+/* The same call with another slice, refused: nothing becomes anything. */
+static struct call with(struct call c, int which, struct slice s, int64_t answer)
+{
+    c.slices[which] = s;
+    c.slices[STATE].after_bytes = c.slices[OUT].after_bytes = 0;
+    c.answer = answer;
+    return c;
+}
+
+static void refused(const char *name, int which, struct slice s, int refusal)
+{
+    expect(with(good(name), which, s, -refusal));
+}
+
+/* A record line of a unit, with pair symbols that are lent in the rows' first places. */
+static void by_line(const char *name, const uint32_t *u, const uint32_t *counts, const char *t, int refusal)
+{
+    struct call c = with(good(name), UNIT, numbers(u, LAMPBUCKLE_UNIT), -refusal);
+    c.slices[COUNTS] = numbers(counts, LAMPBUCKLE_SUBSEQUENCES);
+    c.slices[LINE] = text(t);
+    expect(c);
+}
+
+/* ---- what is lent */
+
+static void shapes(void)
+{
+    struct slice nothing = NOTHING;
+    refused("a unit of 7 numbers", UNIT, numbers(unit, 7), LAMPBUCKLE_UNIT_OUT);
+    refused("a unit of 9 numbers", UNIT, numbers(unit, 9), LAMPBUCKLE_UNIT_OUT);
+    refused("no unit", UNIT, nothing, LAMPBUCKLE_UNIT_OUT);
+    refused("a reference of 32,769 bases", REFERENCE, (struct slice){bases, LAMPBUCKLE_REFERENCE + 1, 1, NULL, 0, 0}, LAMPBUCKLE_MISFRAMED);
+    refused("symbols one too few", SYMBOLS, numbers(table, LAMPBUCKLE_TABLE - 1), LAMPBUCKLE_COUNT_OUT);
+    refused("symbols one too many", SYMBOLS, numbers(table, LAMPBUCKLE_TABLE + 1), LAMPBUCKLE_COUNT_OUT);
+    refused("no symbols", SYMBOLS, nothing, LAMPBUCKLE_COUNT_OUT);
+    refused("seven counts", COUNTS, numbers(none, 7), LAMPBUCKLE_COUNT_OUT);
+    refused("nine counts", COUNTS, numbers(none, 9), LAMPBUCKLE_COUNT_OUT);
+    refused("no counts", COUNTS, nothing, LAMPBUCKLE_COUNT_OUT);
+    refused("a state of 8 numbers", STATE, numbers(none, 8), LAMPBUCKLE_MISSING);
+    refused("no state", STATE, nothing, LAMPBUCKLE_MISSING);
+    refused("no line", LINE, nothing, LAMPBUCKLE_MALFORMED);
+    refused("no room", OUT, nothing, LAMPBUCKLE_NO_ROOM);
+    refused("one byte too few", OUT, (struct slice){room, sizeof listed - 2, 1, NULL, 0, 0}, LAMPBUCKLE_NO_ROOM);
+    static const uint32_t ten[10];
+    refused("a state of 10 numbers", STATE, numbers(ten, 10), LAMPBUCKLE_MISSING);
+}
+
+static void values(void)
+{
+    static const uint32_t units[][LAMPBUCKLE_UNIT] = {
+        {0, 0, 1, 2, 100, 100, 109, 1}, {7, 0, 1, 2, 100, 100, 109, 1}, {3, 2, 1, 2, 100, 100, 109, 1}, {3, 0, 0, 2, 100, 100, 109, 1}, {3, 0, 3, 2, 100, 100, 109, 1},
+        {5, 0, 1, 2, 100, 100, 109, 1}, {3, 0, 1, 65536, 100, 100, 109, 1}, {3, 0, 1, 2, 100, 110, 109, 1}, {3, 0, 1, 2, 100, 100, 109, 1025},
+    };
+    for (size_t i = 0; i < sizeof units / sizeof *units; i++)
+        refused("a unit value outside its range", UNIT, numbers(units[i], LAMPBUCKLE_UNIT), LAMPBUCKLE_UNIT_OUT);
+    static const uint32_t many[] = {0, 0, 0, 0, 0, 0, 0, 1025};
+    refused("a count of 1,025", COUNTS, numbers(many, 8), LAMPBUCKLE_COUNT_OUT);
+    refused("a state at the record count", STATE, numbers(first, LAMPBUCKLE_STATE), LAMPBUCKLE_MISSING);
+    static const uint32_t above[LAMPBUCKLE_STATE] = {0, 0, 0, 0, 0, 0, 0, 0, 1}, far[LAMPBUCKLE_STATE] = {4294967295};
+    refused("an index above its count", STATE, numbers(above, LAMPBUCKLE_STATE), LAMPBUCKLE_MISSING);
+    refused("a number of 32 bits", STATE, numbers(far, LAMPBUCKLE_STATE), LAMPBUCKLE_MISSING);
+}
+
+/* ---- what the line says */
+
+static void lines(void)
+{
+    refused("no 0A", LINE, (struct slice){line, sizeof line - 2, 1, NULL, 0, 0}, LAMPBUCKLE_MALFORMED);
+    refused("other digits", LINE, text("0300000066000800000200010000040G\n"), LAMPBUCKLE_MALFORMED);
+    refused("another kind", LINE, text("04000000660008000002000100000401\n"), LAMPBUCKLE_MISFRAMED);
+    refused("cut in its last edit", LINE, text("030000006600080000020001000004\n"), LAMPBUCKLE_MISFRAMED);
+    refused("a byte left over", LINE, text("0300000066000800000200010000040100\n"), LAMPBUCKLE_MISFRAMED);
+    refused("read length 0", LINE, text("03000000660000000000\n"), LAMPBUCKLE_LENGTH_OUT);
+    refused("read length 1,001", LINE, text("030000006603e9000000\n"), LAMPBUCKLE_LENGTH_OUT);
+    refused("a symbol outside the alphabet", LINE, text("0300000066000800000100010500\n"), LAMPBUCKLE_SYMBOL_OUT);
+    refused("rcomp 2", LINE, text("03000000660008020000\n"), LAMPBUCKLE_FIELD_OUT);
+    refused("1,001 edits", LINE, text("030000006600080003e9\n"), LAMPBUCKLE_FIELD_OUT);
+    refused("an offset at the read length", LINE, text("03000000660008000001000801\n"), LAMPBUCKLE_OFFSET_OUT);
+    refused("two equal offsets", LINE, text("03000000660008000002000101000101\n"), LAMPBUCKLE_OFFSET_OUT);
+    refused("a position before AU start", LINE, text("03000000630008000000\n"), LAMPBUCKLE_POSITION_OUT);
+    refused("a read one past AU end", LINE, text("03000000670008000000\n"), LAMPBUCKLE_POSITION_OUT);
+    static const uint8_t odd[] = {0, 1, 2, 3, 5, 1, 2, 3};
+    refused("a reference byte outside the alphabet under a match", REFERENCE, (struct slice)ARRAY(odd), LAMPBUCKLE_SYMBOL_OUT);
+}
+
+static void classes(void)
+{
+    static const uint32_t i[] = {4, 0, 1, 2, 100, 100, 109, 1}, u[] = {6, 0, 1, 2, 100, 100, 109, 1}, two[] = {3, 0, 2, 2, 100, 100, 109, 1};
+    by_line("clips reach the read length", i, none, "030000006600040000020000000200000000000000\n", LAMPBUCKLE_CLIPS_OUT);
+    by_line("an edit of type 3", i, none, "03000000660004000000000000000000000100000300\n", LAMPBUCKLE_FIELD_OUT);
+    by_line("a deletion with a symbol", i, none, "03000000660004000000000000000000000100000201\n", LAMPBUCKLE_FIELD_OUT);
+    by_line("a deletion behind a substitution", i, none, "03000000660003000000000000000000000200010000" "00010200\n", LAMPBUCKLE_OFFSET_OUT);
+    by_line("pos not 0 in class U", u, none, "0300000001000100\n", LAMPBUCKLE_POSITION_OUT);
+    by_line("no pair code is left", two, none, line, LAMPBUCKLE_USED_UP);
+    by_line("no pair code is left, and nothing behind the kind", two, none, "03\n", LAMPBUCKLE_USED_UP);
+    static const uint32_t one[LAMPBUCKLE_SUBSEQUENCES] = {1, 1};
+    table[0] = 7;
+    by_line("pair code 7", two, one, line, LAMPBUCKLE_CODE_OUT);
+    table[0] = 0;
+    table[LAMPBUCKLE_SYMBOLS] = 65536;
+    by_line("a pair value of 65,536", two, one, line, LAMPBUCKLE_VALUE_OUT);
+    table[LAMPBUCKLE_SYMBOLS] = 0;
+}
+
+/* ---- of two faults the first in the Order; each is a slice of a call that is good but for it */
+
+static void order(void)
+{
+    static const uint32_t many[] = {1025, 0, 0, 0, 0, 0, 0, 0};
+    const struct { int which; struct slice s; int refusal; } faults[] = {
+        {UNIT, numbers(unit, 7), LAMPBUCKLE_UNIT_OUT},
+        {REFERENCE, {bases, LAMPBUCKLE_REFERENCE + 1, 1, NULL, 0, 0}, LAMPBUCKLE_MISFRAMED},
+        {SYMBOLS, numbers(table, 0), LAMPBUCKLE_COUNT_OUT},
+        {COUNTS, numbers(many, 8), LAMPBUCKLE_COUNT_OUT},
+        {STATE, numbers(none, 8), LAMPBUCKLE_MISSING},
+        {LINE, text("0"), LAMPBUCKLE_MALFORMED},
+        {OUT, NOTHING, LAMPBUCKLE_NO_ROOM},
+    };
+    size_t n = sizeof faults / sizeof *faults;
+    for (size_t i = 0; i < n; i++)
+        for (size_t k = i + 1; k < n; k++) {
+            struct call c = with(good("two faults"), faults[k].which, faults[k].s, -faults[k].refusal);
+            expect(with(c, faults[i].which, faults[i].s, -faults[i].refusal));
+        }
+    struct call c = with(good("a record refused, and no room"), LINE, text("03000000630008000000\n"), -LAMPBUCKLE_POSITION_OUT);
+    expect(with(c, OUT, (struct slice)NOTHING, -LAMPBUCKLE_POSITION_OUT));
+}
+
+/* ---- accepted calls */
+
+static void accepted(void)
+{
+    expect(good("document 01's example"));
+    struct call c = good("the same into its own length");
+    c.slices[OUT].count = sizeof listed - 1;
+    expect(c);
+    /* without a reference every position reads as N */
+    static const char padded[] = "04000000000000000000000000000000000000010001000000000000000000660000084e414e4e434e4e4e0008313d41323d43333d\n";
+    c = good("the same without a reference");
+    c.slices[REFERENCE] = (struct slice)NOTHING;
+    c.slices[OUT] = becomes(c.slices[OUT], padded, 0, sizeof padded - 1);
+    expect(c);
+    /* code 0 and value 5: two segments, read1First 0, the mate two behind */
+    static const uint32_t two[] = {1, 0, 2, 2, 100, 100, 109, 4}, counts[] = {2, 1, 0, 0, 0, 0, 0, 0}, state[] = {2, 1, 0, 0, 0, 0, 0, 0, 0}, next[] = {3, 2, 1, 0, 0, 0, 0, 0, 0};
+    static const char pair[] = "04" "0002" "00020001" "000000000000000000000000" "000002" "0002" "00000066"
+        "00000064" "00" "0001" "41" "0002" "313d" "00000066" "01" "0001" "47" "0002" "313d" "\n";
+    table[1] = 0;
+    table[LAMPBUCKLE_SYMBOLS] = 5;
+    c = good("a pair in one record");
+    c.slices[UNIT] = numbers(two, LAMPBUCKLE_UNIT);
+    c.slices[COUNTS] = numbers(counts, LAMPBUCKLE_SUBSEQUENCES);
+    c.slices[STATE] = becomes(numbers(state, LAMPBUCKLE_STATE), next, 0, sizeof next);
+    c.slices[LINE] = text("03" "00000064" "0001" "00" "0001" "01" "\n");
+    c.slices[OUT] = becomes(c.slices[OUT], pair, 0, sizeof pair - 1);
+    c.answer = sizeof pair - 1;
+    expect(c);
+    table[LAMPBUCKLE_SYMBOLS] = 0;
+}
+
+void record_calls(void)
+{
+    memset(room, 'x', sizeof room);
+    accepted();
+    shapes();
+    values();
+    lines();
+    classes();
+    order();
+}

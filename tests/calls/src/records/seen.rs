@@ -1,0 +1,38 @@
+//! What the record calls of a run have reached.
+
+use crate::call::{Call, Outcome};
+use calls::tally::{refused, Tally};
+use oracle::Class;
+
+/// The refusals of a record call: all but those of resuming.
+const REFUSALS: [u32; 15] = [1, 2, 3, 4, 5, 6, 7, 8, 9, 10, 11, 12, 13, 14, 17];
+const SEGMENTS: [u8; 2] = [1, 2];
+const EXACT: &str = "accepted, output just long enough";
+const SHAPE: &str = "a slice of another shape";
+
+/// Everything that a run has to reach, none of it reached yet.
+pub fn nothing() -> Tally {
+    let accepted = Class::ALL.into_iter().flat_map(|class| SEGMENTS.map(|segments| accepted(class, segments)));
+    // HM has two template segments.
+    let accepted = accepted.filter(|name| *name != self::accepted(Class::HM, 1));
+    Tally::of(REFUSALS.map(refused).into_iter().chain(accepted).chain([EXACT, SHAPE].map(String::from)))
+}
+
+pub fn add(seen: &mut Tally, call: &Call, outcome: &Outcome) {
+    let lent = &call.lent;
+    if call.unit_length != 8 || lent.counts.len() != 8 || lent.symbols.len() != 8 || lent.state.len() != 9 {
+        seen.count(SHAPE);
+    }
+    if outcome.answer < 0 {
+        return seen.count(refused(outcome.answer.unsigned_abs() as u32));
+    }
+    if outcome.answer as usize == lent.room {
+        seen.count(EXACT);
+    }
+    let class = Class::from_number(lent.unit.class).expect("an accepted record has a unit within its values");
+    seen.count(accepted(class, lent.unit.template_segments));
+}
+
+fn accepted(class: Class, segments: u8) -> String {
+    format!("class {class:?}, template of {segments} accepted")
+}
