@@ -9,12 +9,13 @@ use native.Mathlib.Nat.{zero-add, suc-add, add-zero}
 use native.Mathlib.Numerals.{add-one}
 use borrow.Author.Tests.{lt-ltb, le-ltb, le-leb, lt-leb, ltb-true, ltb-false, eqb-true}
 use lib.Dec.{ltb, leb, eqb}
-use lib.ListN.{length, getD, replicate, length-replicate}
+use lib.ListN.{length, getD, replicate, set, length-replicate}
 use Rattle.refusal.specs.Numbers.{fine, symbolOut}
-use Rattle.frame.specs.Lay.{Laid}
+use Rattle.frame.specs.Lay.{lay, Laid}
 use Rattle.frame.proofs.HexLaws.{by-test}
 use Rattle.frame.proofs.LayLaws.{laid-as, laid-then, laid-room}
-use Rattle.unit.specs.Table35.{letterN, letterOf, sizeOf, codeOfN}
+use Rattle.unit.specs.Table35.{letterN, letterOf, digitsOf, sizeOf, codeOfN}
+use Rattle.unit.proofs.AlphabetLaws.{digits-high, digits-low, letter-past}
 use Rattle.bases.specs.Reference.{isLent, baseAt, baseRefusal, firstOf, matchedBases, matchRefusal, least, lentBefore}
 use Rattle.bases.specs.Bases.{lettersAt, symbolsRefusal}
 
@@ -34,6 +35,25 @@ least-most a b = by-test (ltb a b) (λ t. rw t (omega (arith, ltb-true a b t))) 
 
 pub least-below : {n : ℕ} (a b : ℕ) → n ≡ least a b → n ≤ b
 least-below a b e = rw e (least-most a b)
+
+-- ---- a letter, from the table of digits
+
+letter-least : (alphabet symbol : ℕ) → letterOf alphabet (least symbol 16) ≡ letterOf alphabet symbol
+letter-least alphabet symbol =
+    by-test (ltb symbol 16)
+    (λ t. rw (least-left symbol 16 (omega (arith, ltb-true symbol 16 t))))
+    (λ t.
+    let h = ltb-false symbol 16 t in
+    rw (least-right symbol 16 h) (sym (letter-past alphabet symbol h)))
+
+pub laid-letter : {a b t : List ℕ} {at r : ℕ} (alphabet symbol : ℕ) → t ≡ digitsOf alphabet → r ≡ at + 2
+    → b ≡ set (set a at (getD t (2 * least symbol 16) 0)) (at + 1) (getD t (2 * least symbol 16 + 1) 0) → Laid a b at r (letterOf alphabet symbol ∷ [])
+unfolding lay
+laid-letter alphabet symbol e f g =
+    record {
+      to = f;
+      holds = g ∙ rw (e, digits-high alphabet _ (least-most symbol 16), digits-low alphabet _ (least-most symbol 16), letter-least);
+    }
 
 -- ---- N is the same letter in either alphabet
 
@@ -104,6 +124,10 @@ module _ (reference : List ℕ) (first position : ℕ) where
 -- ---- a run of positions
 
 module _ (alphabet : ℕ) (reference : List ℕ) (first : ℕ) where
+  pub matched-none : (position : ℕ) → matchedBases alphabet reference first position 0 ≡ []
+  unfolding matchedBases
+  matched-none position = refl
+
   pub length-matched : (position n : ℕ) → length (matchedBases alphabet reference first position n) ≡ n
   unfolding matchedBases
   length-matched position zero = refl

@@ -4,13 +4,13 @@ use frame::lay::put_byte;
 use unit::alphabet;
 ghost use mathlib.Core.Path.{_≡_};
 ghost use Prim.Native.Nat.{_+_, _-_, _*_, _≤_};
-ghost use lib.ListN.{length, replicate};
+ghost use lib.ListN.{length, getD, replicate, set};
 ghost use Rattle.frame.specs.Lay.{Laid};
 ghost use Rattle.unit.specs.Table35.{letterN};
 ghost use Rattle.bases.specs.Reference.{lentBefore, matchedBases, matchRefusal, least as leastOf};
 ghost use Rattle.bases.specs.Bases.{R, r, farthest, lettersAt, symbolsRefusal};
 
-pub(crate) fn wide(b: u8) -> u32
+fn wide(b: u8) -> u32
     ensures { λ n. ⌜ n ≡ b ⌝ }
 {
     b as u32
@@ -80,6 +80,32 @@ fn put_padding(out: &mut [u8], at: usize, letters: u32, count: u64) -> usize
     next
 }
 
+// Where a symbol's letter stands in the table of digits: what is outside the alphabets shares the last place.
+fn place_of(symbol: u8) -> usize
+    ensures { λ n. ⌜ n ≡ 2 * leastOf symbol 16 ⌝ }
+{
+    2 * least(symbol as u64, 16) as usize
+}
+
+// A symbol's letter, from the table of digits. Both digits are read before one is stored, so that they are moved at once.
+pub(crate) fn put_letter(
+    out: &mut [u8],
+    at: usize,
+    table: &[u8; alphabet::DIGITS],
+    symbol: u8,
+) -> usize
+    requires { ⌜ at + 2 ≤ length (now out) ⌝ }
+    ensures { λ a. ⌜ a ≡ at + 2 ⌝ }
+    ensures { λ _. ⌜ now (out .exit) ≡ set (set (now (out .entry)) at (getD (now (table .entry)) (2 * leastOf symbol 16) 0)) (at + 1) (getD (now (table .entry)) (2 * leastOf symbol 16 + 1) 0) ⌝ }
+{
+    let place = place_of(symbol);
+    let high = table[place];
+    let low = table[place + 1];
+    out[at] = high;
+    out[at + 1] = low;
+    at + 2
+}
+
 // The letters of the lent bases from `start` to `end`.
 fn put_lent(
     out: &mut [u8],
@@ -93,11 +119,11 @@ fn put_lent(
     requires { ⌜ at + 2 * (end - start) ≤ length (now out) ⌝ }
     ensures { λ a. ⌜ Laid (now (out .entry)) (now (out .exit)) at a (lettersAt letters (now (reference .entry)) start (end - start)) ⌝ }
 {
+    let table = alphabet::digits(letters);
     let mut next = at;
     let mut i = start;
     while i < end {
-        let b = alphabet::letter(letters, wide(reference[i]));
-        next = put_byte(out, next, b);
+        next = put_letter(out, next, &table, reference[i]);
         i += 1;
     }
     next
@@ -118,6 +144,9 @@ pub(crate) fn put_matched(
     ensures { λ a. ⌜ Laid (now (out .entry)) (now (out .exit)) at a (matchedBases letters (now (reference .entry)) first (R p) (to - r p)) ⌝ }
 {
     let n = p.until(to);
+    if n == 0 {
+        return at;
+    }
     let from = p.reference;
     let before = least(n, between(from.0, first as u64));
     let start = lent_before(reference.len(), first, from.0);

@@ -4,8 +4,8 @@ mod places;
 
 use crate::lent::check_match;
 use crate::lent::least;
+use crate::lent::put_letter;
 use crate::lent::put_matched;
-use crate::lent::wide;
 use crate::places::Places;
 use block::Segment;
 use block::edit::Edit;
@@ -13,7 +13,6 @@ use block::edit::edit_at;
 use block::edit::width;
 use block::mapped_length;
 use frame::field::byte_at;
-use frame::lay::put_byte;
 use unit::alphabet;
 ghost use mathlib.Core.Path.{_≡_};
 ghost use mathlib.Core.List.{_++_};
@@ -21,6 +20,7 @@ ghost use Prim.Native.Nat.{_+_, _-_, _*_, _≤_};
 ghost use lib.ListN.{length};
 ghost use Rattle.frame.specs.Hex.{unhex};
 ghost use Rattle.frame.specs.Lay.{Laid};
+ghost use Rattle.unit.specs.Table35.{digitsOf};
 ghost use Rattle.bases.specs.Reference.{matchedBases, least as leastOf};
 ghost use Rattle.bases.specs.Bases.{R, r, farthest, editBases, lettersAt, mappedBases, referenceRefusal, basesText};
 
@@ -70,9 +70,11 @@ fn put_edit(
     reference: &[u8],
     first: u32,
     letters: u32,
+    table: &[u8; alphabet::DIGITS],
     p: Places,
     e: Edit,
 ) -> usize
+    requires { ⌜ now table ≡ digitsOf letters ⌝ }
     requires { ⌜ R p ≤ farthest ⌝ }
     requires { ⌜ at + 2 * length (matchedBases letters (now reference) first (R p) (e .offset - r p) ++ editBases letters e) ≤ length (now out) ⌝ }
     ensures { λ a. ⌜ Laid (now (out .entry)) (now (out .exit)) at a (matchedBases letters (now (reference .entry)) first (R p) (e .offset - r p) ++ editBases letters e) ⌝ }
@@ -81,7 +83,7 @@ fn put_edit(
     if e.kind == Edit::DELETION {
         return next;
     }
-    put_byte(out, next, alphabet::letter(letters, wide(e.symbol)))
+    put_letter(out, next, table, e.symbol)
 }
 
 // The mapped bases: each edit with the match before it, then the match behind the last.
@@ -101,6 +103,7 @@ fn put_mapped(
     requires { ⌜ at + 2 * length (mappedBases class letters (unhex (now line)) (now reference) first position mapped count place) ≤ length (now out) ⌝ }
     ensures { λ a. ⌜ Laid (now (out .entry)) (now (out .exit)) at a (mappedBases class letters (unhex (now (line .entry))) (now (reference .entry)) first position mapped count place) ⌝ }
 {
+    let table = alphabet::digits(letters);
     let step = width(class);
     let bytes = line.len() / 2;
     let mut here = inside(place, bytes);
@@ -109,7 +112,7 @@ fn put_mapped(
     let mut left = count;
     while 0 < left {
         let e = edit_at(line, class, letters, here);
-        next = put_edit(out, next, reference, first, letters, p, e);
+        next = put_edit(out, next, reference, first, letters, &table, p, e);
         p = p.past_edit(e);
         here += step;
         left -= 1;
@@ -117,7 +120,7 @@ fn put_mapped(
     put_matched(out, next, reference, first, letters, p, mapped)
 }
 
-// Soft-clipped bases: the letters of the frame's bytes from `start` to `end`.
+// Soft-clipped bases: the letters of the frame's bytes from `start` to `end`. Most reads have none, and take no table for it.
 pub fn put_clipped(
     out: &mut [u8],
     at: usize,
@@ -130,11 +133,14 @@ pub fn put_clipped(
     requires { ⌜ at + 2 * (end - start) ≤ length (now out) ⌝ }
     ensures { λ a. ⌜ Laid (now (out .entry)) (now (out .exit)) at a (lettersAt letters (unhex (now (line .entry))) start (end - start)) ⌝ }
 {
+    if start == end {
+        return at;
+    }
+    let table = alphabet::digits(letters);
     let mut next = at;
     let mut i = start;
     while i < end {
-        let b = alphabet::letter(letters, wide(byte_at(line, i)));
-        next = put_byte(out, next, b);
+        next = put_letter(out, next, &table, byte_at(line, i));
         i += 1;
     }
     next

@@ -1,10 +1,10 @@
 -- The laws of the two alphabets: index and letter undo each other. A rule of the letters is one test, computed over each alphabet.
 -- Assumes nothing.
-use mathlib.Core.Path.{_≡_, refl, ap}
+use mathlib.Core.Path.{_≡_, refl, ap, sym, _∙_}
 use mathlib.Core.Bool.{Bool, true, false, cond}
-use mathlib.Core.Logic.{_⊎_, inl, inr}
+use mathlib.Core.Logic.{_⊎_, inl, inr, ⊎-elim}
 use mathlib.Core.List.{List, [], _∷_}
-use Prim.Native.Nat.{ℕ, zero, suc, _+_, _-_, _<_, _≤_}
+use Prim.Native.Nat.{ℕ, zero, suc, _+_, _-_, _*_, _/_, _%_, _<_, _≤_}
 use native.Mathlib.Nat.{zero-add}
 use native.Mathlib.Numerals.{add-one}
 use native.Mathlib.Omega.{arith}
@@ -12,8 +12,9 @@ use borrow.Author.Tests.{eq-eqb, ne-eqb, eqb-true, ltb-true}
 use lib.Dec.{eqb, ltb, lit<}
 use lib.ListN.{length, getD, drop, drop-of-length-le, List·getD-eq-default}
 use lib.Seq.{drop-cons}
+use Rattle.frame.specs.Hex.{glyph, hexOf}
 use Rattle.frame.proofs.HexLaws.{by-test, false-true}
-use Rattle.unit.specs.Table35.{S₀, S₁, lettersOf, letterN, sizeOf, letterOf, codeOfN, codeFrom, codeOf}
+use Rattle.unit.specs.Table35.{S₀, S₁, lettersOf, letterN, sizeOf, letterOf, lettersFrom, digitsOf, codeOfN, codeFrom, codeOf}
 use Rattle.unit.specs.declared.alphabet.Code.{Code}
 use Rattle.unit.specs.declared.alphabet.Code.the-variants.{At, NoSymbol}
 
@@ -96,6 +97,51 @@ letter-of-n alphabet = by-test (eqb alphabet 0) (λ t. simp t) (λ t. simp t)
 pub code-of-n-inside : (alphabet : ℕ) → codeOfN alphabet < sizeOf alphabet
 unfolding sizeOf codeOfN
 code-of-n-inside alphabet = by-test (eqb alphabet 0) (λ t. simp t (lit< tt)) (λ t. simp t (lit< tt))
+
+-- ---- the table of digits: a letter's two digits stand at twice its index
+
+hexOf-high : (bs : List ℕ) (k : ℕ) → k < length bs → getD (hexOf bs) (2 * k) 0 ≡ glyph (getD bs k 0 / 16)
+unfolding hexOf
+hexOf-high [] k h = absurd (omega arith)
+hexOf-high (b ∷ bs) zero h = refl
+hexOf-high (b ∷ bs) (suc k) h = let e : 2 * suc k ≡ suc (suc (2 * k)) = omega arith in rw e (hexOf-high bs k (omega arith))
+
+hexOf-low : (bs : List ℕ) (k : ℕ) → k < length bs → getD (hexOf bs) (2 * k + 1) 0 ≡ glyph (getD bs k 0 % 16)
+unfolding hexOf
+hexOf-low [] k h = absurd (omega arith)
+hexOf-low (b ∷ bs) zero h = refl
+hexOf-low (b ∷ bs) (suc k) h = let e : 2 * suc k + 1 ≡ suc (suc (2 * k + 1)) = omega arith in rw e (hexOf-low bs k (omega arith))
+
+length-from : (alphabet i n : ℕ) → length (lettersFrom alphabet i n) ≡ n
+unfolding lettersFrom
+length-from alphabet i zero = refl
+length-from alphabet i (suc n) = ap suc (length-from alphabet (i + 1) n)
+
+from-at : (alphabet i n k : ℕ) → k < n → getD (lettersFrom alphabet i n) k 0 ≡ letterOf alphabet (i + k)
+unfolding lettersFrom
+from-at alphabet i zero k h = absurd (omega arith)
+from-at alphabet i (suc n) zero h = let e : i + 0 ≡ i = omega arith in rw e
+from-at alphabet i (suc n) (suc k) h =
+    let e : i + suc k ≡ i + 1 + k = omega arith in
+    rw e (from-at alphabet (i + 1) n k (omega arith))
+
+pub digits-high : (alphabet index : ℕ) → index ≤ 16 → getD (digitsOf alphabet) (2 * index) 0 ≡ glyph (letterOf alphabet index / 16)
+unfolding digitsOf
+digits-high alphabet index h =
+    hexOf-high (lettersFrom alphabet 0 17) index (rw length-from (omega arith))
+    ∙ rw (from-at alphabet 0 17 index (omega arith), zero-add)
+
+pub digits-low : (alphabet index : ℕ) → index ≤ 16 → getD (digitsOf alphabet) (2 * index + 1) 0 ≡ glyph (letterOf alphabet index % 16)
+unfolding digitsOf
+digits-low alphabet index h =
+    hexOf-low (lettersFrom alphabet 0 17) index (rw length-from (omega arith))
+    ∙ rw (from-at alphabet 0 17 index (omega arith), zero-add)
+
+-- 16 stands for every index behind it
+pub letter-past : (alphabet index : ℕ) → 16 ≤ index → letterOf alphabet index ≡ letterOf alphabet 16
+letter-past alphabet index h =
+    let past : (k : ℕ) → 16 ≤ k → letterOf alphabet k ≡ 0 = λ k g. outside alphabet k (⊎-elim (λ e. omega arith) (λ e. omega arith) (size-two alphabet)) in
+    past index h ∙ sym (past 16 (omega arith))
 
 -- ---- there and back
 

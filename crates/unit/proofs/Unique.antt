@@ -8,7 +8,7 @@ use Rattle.frame.specs.Whole.{wroteOf, lineInto}
 use Rattle.frame.specs.declared.lay.Wrote.{Wrote}
 use Rattle.unit.specs.Unit.{leastSegments, unitRefusal}
 use Rattle.unit.specs.State.{freshState}
-use Rattle.unit.specs.Table35.{sizeOf, letterOf, codeOfN, codeOf}
+use Rattle.unit.specs.Table35.{sizeOf, letterOf, digitsOf, codeOfN, codeOf}
 use Rattle.unit.specs.UnitLine.{unitLine, unitBytes}
 use Rattle.unit.specs.PairLine.{pairLine, tableAfter}
 use Rattle.unit.specs.ReferenceLine.{referenceLine, referenceAfter}
@@ -44,6 +44,9 @@ size-once alphabet = once
 
 pub letter-once : (alphabet index : ℕ) {r r′ : ℕ} → r ≡ letterOf alphabet index → r′ ≡ letterOf alphabet index → r ≡ r′
 letter-once alphabet index = once
+
+pub digits-once : (alphabet : ℕ) {r r′ : List ℕ} → r ≡ digitsOf alphabet → r′ ≡ digitsOf alphabet → r ≡ r′
+digits-once alphabet = once
 
 pub index-of-n-once : (alphabet : ℕ) {r r′ : ℕ} → r ≡ codeOfN alphabet → r′ ≡ codeOfN alphabet → r ≡ r′
 index-of-n-once alphabet = once

@@ -1,10 +1,11 @@
 -- Table 35: conversions from numerical indexes to ASCII characters corresponding to alphabet symbols.
 -- Assumes nothing.
-use Prim.Native.Nat.{ℕ, _+_}
+use Prim.Native.Nat.{ℕ, zero, suc, _+_}
 use mathlib.Core.Bool.{cond}
 use mathlib.Core.List.{List, [], _∷_}
 use lib.Dec.{eqb}
 use lib.ListN.{length, getD}
+use Rattle.frame.specs.Hex.{hexOf}
 use Rattle.unit.specs.declared.alphabet.Code.{Code}
 use Rattle.unit.specs.declared.alphabet.Code.the-variants.{At, NoSymbol}
 
@@ -30,6 +31,15 @@ sizeOf alphabet = length (lettersOf alphabet)
 -- S[index]; 0, which is no letter, outside the alphabet
 unfoldable pub letterOf : ℕ → ℕ → ℕ
 letterOf alphabet index = getD (lettersOf alphabet) index 0
+
+-- S[index], S[index + 1] and so on, n of them
+unfoldable pub lettersFrom : ℕ → ℕ → ℕ → List ℕ
+lettersFrom alphabet index zero = []
+lettersFrom alphabet index (suc n) = letterOf alphabet index ∷ lettersFrom alphabet (index + 1) n
+
+-- the digits of the letters of the indexes 0 to 16; 16 is outside both alphabets
+unfoldable pub digitsOf : ℕ → List ℕ
+digitsOf alphabet = hexOf (lettersFrom alphabet 0 17)
 
 -- where N stands
 unfoldable pub codeOfN : ℕ → ℕ

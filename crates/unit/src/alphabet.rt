@@ -1,6 +1,6 @@
 // The two alphabets of Table 35: an index of a symbol, its letter, and back.
 ghost use mathlib.Core.Path.{_≡_};
-ghost use Rattle.unit.specs.Table35.{sizeOf, letterOf, codeOfN, codeOf};
+ghost use Rattle.unit.specs.Table35.{sizeOf, letterOf, digitsOf, codeOfN, codeOf};
 
 // What Code[symbol] of the standard is.
 pub enum Code {
@@ -31,6 +31,14 @@ const SIXTEEN: [u8; 16] = [
     45,
 ];
 
+// The digits of a table: two a letter, from index 0 to index 16, which is outside both alphabets.
+pub const DIGITS: usize = 34;
+
+// The same letters as digits; 00 for an index outside the alphabet.
+const FIVE_DIGITS: [u8; DIGITS] = *b"414347544e000000000000000000000000";
+
+const SIXTEEN_DIGITS: [u8; DIGITS] = *b"41434754525953574b4d424448564e2d00";
+
 // How many symbols an alphabet has: an index is below this.
 pub fn size(alphabet: u32) -> u32
     ensures { λ r. ⌜ r ≡ sizeOf alphabet ⌝ }
@@ -53,6 +61,17 @@ pub fn letter(alphabet: u32, index: u32) -> u8
         return SIXTEEN[at];
     }
     0
+}
+
+// The digits of each letter, for a writer of many: it takes them once, and a letter is then two places of the table.
+pub fn digits(alphabet: u32) -> [u8; DIGITS]
+    ensures { λ r. ⌜ r ≡ digitsOf alphabet ⌝ }
+{
+    if alphabet == 0 {
+        FIVE_DIGITS
+    } else {
+        SIXTEEN_DIGITS
+    }
 }
 
 // The index of the letter N.

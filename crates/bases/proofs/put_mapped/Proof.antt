@@ -12,10 +12,13 @@ use Rattle.bases.proofs.put_mapped.Statement.{statement}
 use Rattle.bases.proofs.put_mapped.Tie as tie
 
 abbrev Inv-loop : tie.InvT-loop
-Inv-loop out₀ at reference first letters position line class place count mapped step bytes here₀ p₀ next₀ left₀ out here p next left = Walk bytes position count p left here × Rest out next (basesFrom letters reference first mapped p (editsAt class letters (unhex line) left here)) out₀ at (mappedBases class letters (unhex line) reference first position mapped count place)
+Inv-loop out₀ at reference first letters position line class place count mapped table step bytes here₀ p₀ next₀ left₀ out here p next left = Walk bytes position count p left here × Rest out next (basesFrom letters reference first mapped p (editsAt class letters (unhex line) left here)) out₀ at (mappedBases class letters (unhex line) reference first position mapped count place)
 
 abbrev μ-loop : tie.MeasureT-loop
-μ-loop out₀ at reference first letters position line class place count mapped step bytes here₀ p₀ next₀ left₀ out here p next left = left
+μ-loop out₀ at reference first letters position line class place count mapped table step bytes here₀ p₀ next₀ left₀ out here p next left = left
+
+digits-requires : tie.Need-digits-requires Inv-loop μ-loop
+digits-requires c κs = search needs
 
 width-requires : tie.Need-width-requires Inv-loop μ-loop
 width-requires c κs = search needs
@@ -33,13 +36,13 @@ edit-at-requires : tie.Need-edit-at-requires Inv-loop μ-loop
 edit-at-requires c κs = search needs
 
 put-edit-requires : tie.Need-put-edit-requires Inv-loop μ-loop
-put-edit-requires c κs = (walk-near (c .before .before .before .loop .inv .0) (omega arith) (omega arith), bases-room _ _ _ _ _ _ _ _ _ _ (c .before .edit-at .ensures) (c .before .before .loop-test .taken) (c .before .before .before .loop .inv .1) (c .before .before .before .before .before .before .before .before .before .before .pre))
+put-edit-requires c κs = (c .before .before .before .before .before .before .before .before .digits .ensures, (walk-near (c .before .before .before .before .loop .inv .0) (omega arith) (omega arith), bases-room _ _ _ _ _ _ _ _ _ _ (c .before .before .edit-at .ensures) (c .before .before .before .loop-test .taken) (c .before .before .before .before .loop .inv .1) (c .before .before .before .before .before .before .before .before .before .before .before .before .pre)))
 
 past-edit-requires : tie.Need-past-edit-requires Inv-loop μ-loop
-past-edit-requires c κs = walk-near (c .before .before .before .before .before .before .loop .inv .0) (omega arith) (omega arith)
+past-edit-requires c κs = walk-near (c .before .before .before .before .before .before .before .loop .inv .0) (omega arith) (omega arith)
 
 add-here : tie.Need-add-here Inv-loop μ-loop
-add-here c = omega (arith, walk-room _ (c .before .before .before .before .before .before .before .loop .inv .0) (c .before .before .before .before .before .before .loop-test .taken) (c .before .before .before .before .before .before .before .before .before .before .width .ensures), c .before .before .before .before .before .before .before .before .before .before .before .before .before .before .good .1 .1 .1 .1 .1 .1 .0, c .before .before .before .before .before .before .before .before .before .before .before .before .before .before .fits .count)
+add-here c = omega (arith, walk-room _ (c .before .before .before .before .before .before .before .before .loop .inv .0) (c .before .before .before .before .before .before .before .loop-test .taken) (c .before .before .before .before .before .before .before .before .before .before .before .width .ensures), c .before .before .before .before .before .before .before .before .before .before .before .before .before .before .before .before .good .1 .1 .1 .1 .1 .1 .0, c .before .before .before .before .before .before .before .before .before .before .before .before .before .before .before .before .fits .count)
 
 sub-left : tie.Need-sub-left Inv-loop μ-loop
 sub-left c = search needs
@@ -48,10 +51,10 @@ loop-less : tie.Need-loop-less Inv-loop μ-loop
 loop-less c = search needs
 
 loop-again : tie.Need-loop-again Inv-loop μ-loop
-loop-again c = (walk-on _ _ _ _ _ _ _ _ _ (c .before .before .before .before .before .before .before .loop .inv .0) (c .before .before .before .before .before .before .loop-test .taken) (omega arith) (c .past-edit .ensures) (c .before .before .before .before .before .before .before .before .before .before .width .ensures), rw (c .before .before .before .before .before .before .before .before .before .before .width .ensures, c .past-edit .ensures) (rest-put (c .before .before .before .before .before .before .before .loop .inv .1) (bases-on _ _ _ _ _ _ _ _ _ _ (c .before .before .before .before .before .edit-at .ensures) (c .before .before .before .before .before .before .loop-test .taken)) (c .before .before .before .put-edit .ensures)))
+loop-again c = (walk-on _ _ _ _ _ _ _ _ _ (c .before .before .before .before .before .before .before .before .loop .inv .0) (c .before .before .before .before .before .before .before .loop-test .taken) (omega arith) (c .past-edit .ensures) (c .before .before .before .before .before .before .before .before .before .before .before .width .ensures), rw (c .before .before .before .before .before .before .before .before .before .before .before .width .ensures, c .past-edit .ensures) (rest-put (c .before .before .before .before .before .before .before .before .loop .inv .1) (bases-on _ _ _ _ _ _ _ _ _ _ (c .before .before .before .before .before .before .edit-at .ensures) (c .before .before .before .before .before .before .before .loop-test .taken)) (c .before .before .before .put-edit .ensures)))
 
 put-matched-requires : tie.Need-put-matched-requires Inv-loop μ-loop
-put-matched-requires c κs = (walk-near (c .before .before .loop .inv .0) (omega arith) (omega arith), rw length-matched at (rest-room-end (c .before .before .loop .inv .1) (bases-end _ _ _ _ _ _ _ _ _ (c .before .loop-test .left)) (c .before .before .before .before .before .before .before .before .before .pre)))
+put-matched-requires c κs = (walk-near (c .before .before .loop .inv .0) (omega arith) (omega arith), rw length-matched at (rest-room-end (c .before .before .loop .inv .1) (bases-end _ _ _ _ _ _ _ _ _ (c .before .loop-test .left)) (c .before .before .before .before .before .before .before .before .before .before .pre)))
 
 same-length : tie.Need-same-length Inv-loop μ-loop
 same-length c = c .before .before .put-matched .kept .0 ∙ c .before .before .before .before .before .loop .inv .1 .long
@@ -65,6 +68,7 @@ put-mapped-spec =
     (tie.spec
     Inv-loop
     μ-loop
+    digits-requires
     width-requires
     inside-requires
     beginning-requires

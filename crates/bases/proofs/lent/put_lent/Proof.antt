@@ -1,34 +1,32 @@
 -- `bases::lent::put_lent` meets its contract. The loop's invariant: to lay what is left, from here, gives what laying the whole gives. Assumes nothing.
 use Prim.Native.Nat.{_-_, _≤_}
+use mathlib.Core.Path.{refl}
 use mathlib.Core.List.{[], _∷_}
 use native.Mathlib.Omega.{arith}
 use Rattle.frame.proofs.LayLaws.{Rest, rest-start, rest-put, rest-room, rest-done}
 use Rattle.bases.specs.Bases.{lettersAt}
-use Rattle.bases.proofs.ReferenceLaws.{letters-on, letters-end, length-letters}
+use Rattle.bases.proofs.ReferenceLaws.{laid-letter, letters-on, letters-end, length-letters}
 use borrow.Author.Needs.{needs}
 use Rattle.bases.proofs.lent.put_lent.Statement.{statement}
 use Rattle.bases.proofs.lent.put_lent.Tie as tie
 
 abbrev Inv-loop : tie.InvT-loop
-Inv-loop out₀ at reference letters start end next₀ i₀ out next i = (i ≤ end) × Rest out next (lettersAt letters reference i (end - i)) out₀ at (lettersAt letters reference start (end - start))
+Inv-loop out₀ at reference letters start end table next₀ i₀ out next i = (i ≤ end) × Rest out next (lettersAt letters reference i (end - i)) out₀ at (lettersAt letters reference start (end - start))
 
 abbrev μ-loop : tie.MeasureT-loop
-μ-loop out₀ at reference letters start end next₀ i₀ out next i = end - i
+μ-loop out₀ at reference letters start end table next₀ i₀ out next i = end - i
+
+digits-requires : tie.Need-digits-requires Inv-loop μ-loop
+digits-requires c κs = search needs
 
 loop-holds : tie.Need-loop-holds Inv-loop μ-loop
-loop-holds c = (c .before .before .pre .0 .0, rest-start _ _ _)
+loop-holds c = (c .before .before .before .pre .0 .0, rest-start _ _ _)
 
-shared-slice-read-wide : tie.Need-shared-slice-read-wide Inv-loop μ-loop
-shared-slice-read-wide c = search needs
+shared-slice-read-put-letter : tie.Need-shared-slice-read-put-letter Inv-loop μ-loop
+shared-slice-read-put-letter c = search needs
 
-wide-requires : tie.Need-wide-requires Inv-loop μ-loop
-wide-requires c κs = search needs
-
-letter-requires : tie.Need-letter-requires Inv-loop μ-loop
-letter-requires c κs = search needs
-
-put-byte-requires : tie.Need-put-byte-requires Inv-loop μ-loop
-put-byte-requires c κs = rest-room (_ ∷ []) _ (c .before .before .before .before .before .loop .inv .1) (letters-on _ _ _ _ (c .before .before .wide .ensures) (c .before .letter .ensures) (c .before .before .before .before .loop-test .taken)) (rw length-letters (c .before .before .before .before .before .before .before .before .pre .1))
+put-letter-requires : tie.Need-put-letter-requires Inv-loop μ-loop
+put-letter-requires c κs = rest-room (_ ∷ []) _ (c .before .before .before .before .loop .inv .1) (letters-on _ _ _ _ refl refl (c .before .before .before .loop-test .taken)) (rw length-letters (c .before .before .before .before .before .before .before .before .pre .1))
 
 add-i : tie.Need-add-i Inv-loop μ-loop
 add-i c = search needs
@@ -37,7 +35,7 @@ loop-less : tie.Need-loop-less Inv-loop μ-loop
 loop-less c = search needs
 
 loop-again : tie.Need-loop-again Inv-loop μ-loop
-loop-again c = (omega arith, rest-put (c .before .before .before .before .before .before .before .before .loop .inv .1) (letters-on _ _ _ _ (c .before .before .before .before .before .wide .ensures) (c .before .before .before .before .letter .ensures) (c .before .before .before .before .before .before .before .loop-test .taken)) (c .before .before .put-byte .ensures))
+loop-again c = (omega arith, rest-put (c .before .before .before .before .before .before .before .loop .inv .1) (letters-on _ _ _ _ refl refl (c .before .before .before .before .before .before .loop-test .taken)) (laid-letter _ _ (c .before .before .before .before .before .before .before .before .digits .ensures) (c .before .before .put-letter .ensures .0) (c .before .before .put-letter .ensures .1)))
 
 same-length : tie.Need-same-length Inv-loop μ-loop
 same-length c = c .before .loop .inv .1 .long
@@ -51,11 +49,10 @@ put-lent-spec =
     (tie.spec
     Inv-loop
     μ-loop
+    digits-requires
     loop-holds
-    shared-slice-read-wide
-    wide-requires
-    letter-requires
-    put-byte-requires
+    shared-slice-read-put-letter
+    put-letter-requires
     add-i
     loop-less
     loop-again

@@ -1,5 +1,7 @@
 -- `bases::lent::put_matched` meets its contract: padding, lent bases, padding, `laid-matched`. Assumes nothing.
-use Rattle.bases.proofs.ReferenceLaws.{split, room-lent, room-behind, laid-matched}
+use mathlib.Core.Path.{sym}
+use Rattle.frame.proofs.LayLaws.{laid-as, laid-none}
+use Rattle.bases.proofs.ReferenceLaws.{split, matched-none, room-lent, room-behind, laid-matched}
 use native.Mathlib.Omega.{arith}
 use borrow.Author.Needs.{needs}
 use Rattle.bases.proofs.lent.put_matched.Statement.{statement}
@@ -7,6 +9,9 @@ use Rattle.bases.proofs.lent.put_matched.Tie as tie
 
 until-requires : tie.Need-until-requires
 until-requires c κs = search needs
+
+returns : tie.Need-returns
+returns c = rw (← c .before .until .ensures, c .if1 .taken) (laid-as (sym (matched-none _ _ _ _)) (laid-none _ _))
 
 between-requires : tie.Need-between-requires
 between-requires c κs = search needs
@@ -33,25 +38,26 @@ sub-behind-3 : tie.Need-sub-behind-3
 sub-behind-3 c = let s = split _ _ _ _ (c .before .before .before .before .between .ensures) (c .before .before .before .least .ensures) (c .before .before .lent-before .ensures) (c .lent-before2 .ensures) in omega (arith, s .order, s .fits)
 
 put-padding-requires : tie.Need-put-padding-requires
-put-padding-requires c κs = let s = split _ _ _ _ (c .before .before .before .before .before .between .ensures) (c .before .before .before .before .least .ensures) (c .before .before .before .lent-before .ensures) (c .before .lent-before2 .ensures) in omega (arith, s .fits, c .before .before .before .before .before .before .before .until .ensures, c .before .before .before .before .before .before .before .before .before .before .pre .1)
+put-padding-requires c κs = let s = split _ _ _ _ (c .before .before .before .before .before .between .ensures) (c .before .before .before .before .least .ensures) (c .before .before .before .lent-before .ensures) (c .before .lent-before2 .ensures) in omega (arith, s .fits, c .before .before .before .before .before .before .before .before .until .ensures, c .before .before .before .before .before .before .before .before .before .before .before .pre .1)
 
 put-lent-requires : tie.Need-put-lent-requires
-put-lent-requires c κs = let s = (split _ _ _ _ (c .before .before .before .before .before .before .before .before .before .between .ensures) (c .before .before .before .before .before .before .before .before .least .ensures) (c .before .before .before .before .before .before .before .lent-before .ensures) (c .before .before .before .before .before .lent-before2 .ensures)) in ((s .order, s .room), room-lent s (omega (arith, c .before .before .before .before .before .before .before .before .before .before .before .until .ensures, c .before .before .before .before .before .before .before .before .before .before .before .before .before .before .pre .1)) (c .before .before .before .put-padding .ensures))
+put-lent-requires c κs = let s = (split _ _ _ _ (c .before .before .before .before .before .before .before .before .before .between .ensures) (c .before .before .before .before .before .before .before .before .least .ensures) (c .before .before .before .before .before .before .before .lent-before .ensures) (c .before .before .before .before .before .lent-before2 .ensures)) in ((s .order, s .room), room-lent s (omega (arith, c .before .before .before .before .before .before .before .before .before .before .before .before .until .ensures, c .before .before .before .before .before .before .before .before .before .before .before .before .before .before .before .pre .1)) (c .before .before .before .put-padding .ensures))
 
 put-padding-requires-2 : tie.Need-put-padding-requires-2
-put-padding-requires-2 c κs = room-behind (split _ _ _ _ (c .before .before .before .before .before .before .before .before .before .before .before .before .before .between .ensures) (c .before .before .before .before .before .before .before .before .before .before .before .before .least .ensures) (c .before .before .before .before .before .before .before .before .before .before .before .lent-before .ensures) (c .before .before .before .before .before .before .before .before .before .lent-before2 .ensures)) (omega (arith, c .before .before .before .before .before .before .before .before .before .before .before .before .before .before .before .until .ensures, c .before .before .before .before .before .before .before .before .before .before .before .before .before .before .before .before .before .before .pre .1)) (c .before .before .before .before .before .before .before .put-padding .ensures) _ _ (c .before .before .before .put-lent .ensures)
+put-padding-requires-2 c κs = room-behind (split _ _ _ _ (c .before .before .before .before .before .before .before .before .before .before .before .before .before .between .ensures) (c .before .before .before .before .before .before .before .before .before .before .before .before .least .ensures) (c .before .before .before .before .before .before .before .before .before .before .before .lent-before .ensures) (c .before .before .before .before .before .before .before .before .before .lent-before2 .ensures)) (omega (arith, c .before .before .before .before .before .before .before .before .before .before .before .before .before .before .before .before .until .ensures, c .before .before .before .before .before .before .before .before .before .before .before .before .before .before .before .before .before .before .before .pre .1)) (c .before .before .before .before .before .before .before .put-padding .ensures) _ _ (c .before .before .before .put-lent .ensures)
 
 same-length : tie.Need-same-length
 same-length c = search needs
 
-returns : tie.Need-returns
-returns c = rw (← c .before .before .before .before .before .before .before .before .before .before .before .before .before .before .before .before .before .before .until .ensures) (laid-matched _ _ _ _ _ (c .before .before .before .before .before .before .before .before .before .before .put-padding .ensures) (c .before .before .before .before .before .before .put-lent .ensures) (c .before .before .put-padding2 .ensures) (split _ _ _ _ (c .before .before .before .before .before .before .before .before .before .before .before .before .before .before .before .before .between .ensures) (c .before .before .before .before .before .before .before .before .before .before .before .before .before .before .before .least .ensures) (c .before .before .before .before .before .before .before .before .before .before .before .before .before .before .lent-before .ensures) (c .before .before .before .before .before .before .before .before .before .before .before .before .lent-before2 .ensures)))
+returns-2 : tie.Need-returns-2
+returns-2 c = rw (← c .before .before .before .before .before .before .before .before .before .before .before .before .before .before .before .before .before .before .before .until .ensures) (laid-matched _ _ _ _ _ (c .before .before .before .before .before .before .before .before .before .before .put-padding .ensures) (c .before .before .before .before .before .before .put-lent .ensures) (c .before .before .put-padding2 .ensures) (split _ _ _ _ (c .before .before .before .before .before .before .before .before .before .before .before .before .before .before .before .before .between .ensures) (c .before .before .before .before .before .before .before .before .before .before .before .before .before .before .before .least .ensures) (c .before .before .before .before .before .before .before .before .before .before .before .before .before .before .lent-before .ensures) (c .before .before .before .before .before .before .before .before .before .before .before .before .lent-before2 .ensures)))
 
 pub put-matched-spec : {M : Type 1} → statement M
 put-matched-spec =
     tie.close
     (tie.spec
     until-requires
+    returns
     between-requires
     least-requires
     lent-before-requires
@@ -64,4 +70,4 @@ put-matched-spec =
     put-lent-requires
     put-padding-requires-2
     same-length
-    returns)
+    returns-2)
