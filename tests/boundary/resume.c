@@ -59,8 +59,9 @@ static void placed(const char *name, uint64_t records, struct slice first, struc
     expect((struct call){name, place, {records}, {BYTES(unit), all, first, last, lent}, 5, answer});
 }
 
-/* An 04 line of 28 bytes, of a record number and the last index. */
-#define LISTED(number, index) "04" number "0000000000000000000000000000" index "010001000000000000\n"
+/* An 04 line of 27 bytes, and of 28, of a record number and the last index. */
+#define SHORT(number, index) "04" number "0000000000000000000000000000" index "0100010000000000"
+#define LISTED(number, index) SHORT(number, index) "00\n"
 
 static void places(void)
 {
@@ -75,7 +76,7 @@ static void places(void)
     placed("a number at the record count", 4, first, text(LISTED("0004", "0002")), NULL, -LAMPBUCKLE_OTHER_LAST);
     placed("an index above its count", 4, first, text(LISTED("0003", "0003")), NULL, -LAMPBUCKLE_OTHER_LAST);
     placed("no record is there", 0, first, text(LISTED("0000", "0000")), NULL, -LAMPBUCKLE_OTHER_LAST);
-    placed("an 04 line of 27 bytes", 4, first, text("0400030000000000000000000000000000000000010001000000000000\n" + 2), NULL, -LAMPBUCKLE_OTHER_LAST);
+    placed("an 04 line of 27 bytes", 4, first, text(SHORT("0003", "0002") "\n"), NULL, -LAMPBUCKLE_OTHER_LAST);
     placed("an 05 line of 5 bytes", 4, first, text("0500010100\n"), NULL, -LAMPBUCKLE_OTHER_LAST);
     placed("an 06 line without 0A", 4, first, text("060004"), NULL, -LAMPBUCKLE_OTHER_LAST);
     placed("no last line", 4, first, nothing, NULL, -LAMPBUCKLE_OTHER_LAST);

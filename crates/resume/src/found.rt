@@ -17,7 +17,7 @@ ghost use Prim.Native.Nat.{_≤_};
 ghost use lib.ListN.{length};
 ghost use Rattle.resume.specs.Found.{EdgeWithin};
 
-// As much of a kept line as has to be looked at: it is longer than every line of a listing.
+// As much of a kept line as decides where to go on (law `edges-by-a-buffer`): more than any line of a listing has.
 const EDGE: usize = ListedLine::DIGITS + 2;
 
 // The bytes of a unit line, which is the longest first line, with its 0A.
@@ -147,6 +147,7 @@ pub fn find(fd: i32, front: Front, counts: [u32; State::SUBSEQUENCES], buf: &mut
     look(fd, s.keep, front, counts)
 }
 
+// The file could not be read on, or ended before all that was kept of it.
 fn say_short(path: &[u8], failed: bool) {
     if failed {
         os::fail(path);

@@ -9,7 +9,7 @@ use call::{Call, Outcome};
 use calls::{Compared, Tally};
 use std::process::ExitCode;
 
-const CALLS: u64 = 200_000;
+const CALLS: u64 = 400_000;
 
 fn main() -> ExitCode {
     calls::compare::<Call>("compare-records", "record", CALLS)
