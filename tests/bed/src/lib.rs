@@ -11,6 +11,7 @@ pub mod damage;
 pub mod features;
 pub mod found;
 pub mod frames;
+pub mod largest;
 pub mod model;
 pub mod rng;
 pub mod shrink;

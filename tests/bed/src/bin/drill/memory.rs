@@ -1,12 +1,14 @@
 //! Peak memory: a large unit takes no more than a small one.
 
-use crate::run::{unit_of, Programs};
+use crate::run::Programs;
+use bed::largest::unit_of;
 use bed::Files;
 use std::io::Read;
 use std::process::{Command, Stdio};
 
-/// Kilobytes that the largest unit may take more than a small one: noise of pages and of the loader.
-const MORE: u64 = 128;
+/// Kilobytes that the largest unit may take more than a small one. The system counts pages in batches, so that the same program
+/// shows now some, now others; a unit that was held whole would take 16,000 more.
+const MORE: u64 = 512;
 
 pub fn constant(programs: &Programs) -> Result<String, String> {
     let small = peak(programs, &unit_of(16))?;

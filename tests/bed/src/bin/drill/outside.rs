@@ -1,6 +1,7 @@
 //! What the world outside does: files that are not there, a disk that is full, arguments that make no sense.
 
-use crate::run::{largest_unit, output, small_units, Programs};
+use crate::run::{output, small_units, Programs};
+use bed::largest::largest_unit;
 use std::fs::OpenOptions;
 use std::process::{Command, Output};
 

@@ -1,6 +1,7 @@
 //! The power fails while `list` writes to a file; and a found file that is larger than a listing can be.
 
-use crate::run::{largest_unit, printed, Programs};
+use crate::run::{printed, Programs};
+use bed::largest::largest_unit;
 use std::fs::{File, OpenOptions};
 use std::io::{Seek, SeekFrom, Write};
 use std::process::{Command, Stdio};
