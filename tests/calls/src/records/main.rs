@@ -1,9 +1,10 @@
 //! compare-records [--calls N] [--seed S]: makes random record calls of the proved code through the C boundary and compares
-//! the answer, the state, the output and all memory beside them with the second decoder.
+//! the answer, the state, the output and all memory beside them with the second decoder. Document 01's small examples are run first.
 
 mod call;
 mod second;
 mod seen;
+mod vectors;
 
 use call::{Call, Outcome};
 use calls::{Compared, Tally};
@@ -12,6 +13,11 @@ use std::process::ExitCode;
 const CALLS: u64 = 400_000;
 
 fn main() -> ExitCode {
+    if let Some(number) = vectors::first_wrong() {
+        println!("document 01's example {number} is not answered as it says");
+        return ExitCode::FAILURE;
+    }
+    println!("document 01's examples 1 to 13 are answered as it says");
     calls::compare::<Call>("compare-records", "record", CALLS)
 }
 
