@@ -1,11 +1,11 @@
 // Prints the number by which each of a few lines is answered, 0 where it is accepted: the readers of unit, pair and reference lines as they run.
+use preface::pair_line;
+use preface::pair_line::PairLine;
+use preface::reference_line;
+use preface::reference_line::ReferenceLine;
+use preface::unit_line;
+use preface::unit_line::UnitLine;
 use unit::State;
-use unit::pair_line;
-use unit::pair_line::PairLine;
-use unit::reference_line;
-use unit::reference_line::ReferenceLine;
-use unit::unit_line;
-use unit::unit_line::UnitLine;
 
 fn show(number: u32) {
     io::print_decimal(1, number as u64);

@@ -13,7 +13,7 @@ use lib.ListN.{length, getD, length-append, List·getD-append}
 use lib.Seq.{getD-append-add}
 use Rattle.refusal.specs.Numbers.{fine, symbolOut}
 use Rattle.frame.proofs.HexLaws.{by-test}
-use Rattle.unit.specs.Table35.{S₀, S₁, lettersOf, sizeOf, letterOf}
+use Rattle.alphabet.specs.Table35.{S₀, S₁, lettersOf, sizeOf, letterOf}
 use Rattle.block.specs.declared.edit.Edit.{Edit}
 use Rattle.block.specs.Edits.{deletion, nextOffset, Sound, takenFrom}
 use Rattle.block.proofs.EditLaws.{accepted, sound-head, sound-tail, next-deletion, next-other, next-least, next-most, symbol-inside}

@@ -11,10 +11,10 @@ use lib.Dec.{ltb, eqb}
 use lib.ListN.{length, getD, length-append, List·getD-eq-default}
 use Rattle.refusal.specs.Numbers.{fine}
 use Rattle.frame.specs.Hex.{unhex}
-use Rattle.frame.specs.Lay.{Laid}
+use Rattle.writing.specs.Lay.{Laid}
 use Rattle.frame.proofs.HexLaws.{by-test, length-unhex}
-use Rattle.frame.proofs.LayLaws.{Rest, rest-start, rest-room, laid-then, laid-room, length-laid}
-use Rattle.unit.specs.Table35.{letterOf}
+use Rattle.writing.proofs.LayLaws.{Rest, rest-start, rest-room, laid-then, laid-room, length-laid}
+use Rattle.alphabet.specs.Table35.{letterOf}
 use Rattle.block.specs.declared.edit.Edit.{Edit}
 use Rattle.block.specs.declared.Segment.{Segment}
 use Rattle.block.specs.Segment.{mappedLength}

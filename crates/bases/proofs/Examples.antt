@@ -4,7 +4,7 @@ use Prim.Native.Nat.{ℕ}
 use mathlib.Core.Path.{_≡_, refl}
 use mathlib.Core.List.{List, [], _∷_, map}
 use Rattle.unit.specs.Unit.{classP, classM, classI}
-use Rattle.unit.specs.Table35.{letterOf, codeOfN}
+use Rattle.alphabet.specs.Table35.{letterOf, codeOfN}
 use Rattle.block.specs.declared.Segment.{Segment}
 use Rattle.block.specs.Edits.{widthOf, editAt, editsAt}
 use Rattle.block.specs.Segment.{noClips}

@@ -11,7 +11,7 @@ use lib.Dec.{ltb}
 use lib.ListN.{length, getD, length-append, List·getD-append}
 use Rattle.refusal.specs.Numbers.{fine}
 use Rattle.frame.proofs.HexLaws.{by-test}
-use Rattle.unit.specs.Table35.{sizeOf, letterOf}
+use Rattle.alphabet.specs.Table35.{sizeOf, letterOf}
 use Rattle.block.specs.declared.edit.Edit.{Edit}
 use Rattle.block.specs.declared.Segment.{Segment}
 use Rattle.block.specs.Edits.{editsAt, takenFrom}

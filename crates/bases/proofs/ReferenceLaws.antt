@@ -11,11 +11,11 @@ use borrow.Author.Tests.{lt-ltb, le-ltb, le-leb, lt-leb, ltb-true, ltb-false, eq
 use lib.Dec.{ltb, leb, eqb}
 use lib.ListN.{length, getD, replicate, set, length-replicate}
 use Rattle.refusal.specs.Numbers.{fine, symbolOut}
-use Rattle.frame.specs.Lay.{lay, Laid}
+use Rattle.writing.specs.Lay.{lay, Laid}
 use Rattle.frame.proofs.HexLaws.{by-test}
-use Rattle.frame.proofs.LayLaws.{laid-as, laid-then, laid-room}
-use Rattle.unit.specs.Table35.{letterN, letterOf, digitsOf, sizeOf, codeOfN}
-use Rattle.unit.proofs.AlphabetLaws.{digits-high, digits-low, letter-past}
+use Rattle.writing.proofs.LayLaws.{laid-as, laid-then, laid-room}
+use Rattle.alphabet.specs.Table35.{letterN, letterOf, digitsOf, sizeOf, codeOfN}
+use Rattle.alphabet.proofs.AlphabetLaws.{digits-high, digits-low, letter-past}
 use Rattle.bases.specs.Reference.{isLent, baseAt, baseRefusal, firstOf, matchedBases, matchRefusal, least, lentBefore}
 use Rattle.bases.specs.Bases.{lettersAt, symbolsRefusal}
 

@@ -4,7 +4,7 @@ use Prim.Native.Nat.{ℕ, _+_, _-_, _<_, _≤_}
 use mathlib.Core.Path.{_≡_}
 use mathlib.Core.Logic.{_⊎_}
 use mathlib.Core.List.{List, [], _∷_}
-use Rattle.unit.specs.Table35.{sizeOf}
+use Rattle.alphabet.specs.Table35.{sizeOf}
 use Rattle.block.specs.declared.edit.Edit.{Edit}
 use Rattle.block.specs.declared.Segment.{Segment}
 use Rattle.block.specs.Edits.{deletion, editsAt, Sound}

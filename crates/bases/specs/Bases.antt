@@ -6,7 +6,7 @@ use mathlib.Core.List.{List, [], _∷_, _++_}
 use lib.Dec.{leb, eqb}
 use lib.ListN.{getD}
 use Rattle.refusal.specs.Numbers.{fine, symbolOut}
-use Rattle.unit.specs.Table35.{sizeOf, letterOf}
+use Rattle.alphabet.specs.Table35.{sizeOf, letterOf}
 use Rattle.block.specs.declared.edit.Edit.{Edit}
 use Rattle.block.specs.declared.Segment.{Segment}
 use Rattle.block.specs.Edits.{insertion, deletion, editsAt}

@@ -6,7 +6,7 @@ use mathlib.Core.List.{List, [], _∷_}
 use lib.Dec.{ltb, leb, eqb}
 use lib.ListN.{length, getD}
 use Rattle.refusal.specs.Numbers.{fine, symbolOut}
-use Rattle.unit.specs.Table35.{letterN, sizeOf, letterOf}
+use Rattle.alphabet.specs.Table35.{letterN, sizeOf, letterOf}
 
 -- a position inside the lent reference: from that of its first base on, as many as there are bases
 unfoldable pub isLent : List ℕ → ℕ → ℕ → Bool

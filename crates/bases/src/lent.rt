@@ -1,12 +1,11 @@
 // The lent reference under a match: clipped once to what is lent, and N before and behind it (10.2.2, Figure 5).
 use crate::places::Places;
-use frame::lay::put_byte;
-use unit::alphabet;
+use writing::lay::put_byte;
 ghost use mathlib.Core.Path.{_≡_};
 ghost use Prim.Native.Nat.{_+_, _-_, _*_, _≤_};
 ghost use lib.ListN.{length, getD, replicate, set};
-ghost use Rattle.frame.specs.Lay.{Laid};
-ghost use Rattle.unit.specs.Table35.{letterN};
+ghost use Rattle.writing.specs.Lay.{Laid};
+ghost use Rattle.alphabet.specs.Table35.{letterN};
 ghost use Rattle.bases.specs.Reference.{lentBefore, matchedBases, matchRefusal, least as leastOf};
 ghost use Rattle.bases.specs.Bases.{R, r, farthest, lettersAt, symbolsRefusal};
 

@@ -13,14 +13,13 @@ use block::edit::edit_at;
 use block::edit::width;
 use block::mapped_length;
 use frame::field::byte_at;
-use unit::alphabet;
 ghost use mathlib.Core.Path.{_≡_};
 ghost use mathlib.Core.List.{_++_};
 ghost use Prim.Native.Nat.{_+_, _-_, _*_, _≤_};
 ghost use lib.ListN.{length};
 ghost use Rattle.frame.specs.Hex.{unhex};
-ghost use Rattle.frame.specs.Lay.{Laid};
-ghost use Rattle.unit.specs.Table35.{digitsOf};
+ghost use Rattle.writing.specs.Lay.{Laid};
+ghost use Rattle.alphabet.specs.Table35.{digitsOf};
 ghost use Rattle.bases.specs.Reference.{matchedBases, least as leastOf};
 ghost use Rattle.bases.specs.Bases.{R, r, farthest, editBases, lettersAt, mappedBases, referenceRefusal, basesText};
 

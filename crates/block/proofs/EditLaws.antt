@@ -14,7 +14,7 @@ use Rattle.refusal.specs.Numbers.{fine}
 use Rattle.frame.proofs.HexLaws.{by-test, length-unhex}
 use Rattle.unit.specs.Unit.{classN, classM}
 use Rattle.frame.specs.Hex.{unhex}
-use Rattle.unit.specs.Table35.{codeOfN}
+use Rattle.alphabet.specs.Table35.{codeOfN}
 use Rattle.block.specs.Edits.{substitution, deletion, edit, widthOf, editAt, editsAt, nextOffset, deletionRefusal, editRefusal, Sound}
 use Rattle.block.specs.declared.edit.Edit.{Edit}
 

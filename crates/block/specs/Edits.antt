@@ -8,7 +8,7 @@ use lib.Dec.{ltb, leb, eqb}
 use lib.ListN.{getD}
 use Rattle.refusal.specs.Numbers.{fine, symbolOut, fieldOut, offsetOut}
 use Rattle.unit.specs.Unit.{classN, classM}
-use Rattle.unit.specs.Table35.{codeOfN}
+use Rattle.alphabet.specs.Table35.{codeOfN}
 use Rattle.block.specs.declared.edit.Edit.{Edit}
 
 -- mmTypes[i] of Table 93

@@ -1,7 +1,6 @@
 // The edits of an aligned block: read from the frame's digits in place, and refused one by one.
 use frame::field::byte_at;
 use unit::Unit;
-use unit::alphabet;
 ghost use mathlib.Core.Path.{_≡_};
 ghost use mathlib.Core.Bool.{cond};
 ghost use lib.Dec.{ltb};

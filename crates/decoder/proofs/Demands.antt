@@ -24,9 +24,10 @@ use Rattle.listing.specs.Files.{good, wrong}
 use Rattle.listing.specs.Listing.{line05, line06, Each, ListingLine, Numbered}
 use Rattle.listing.specs.Resuming.{bytes05, bytes06, stateAt, lastFrom, nothing, edges, countOf, countsOf, place, ListedLine, ClosingLine, Closes, Continues, placeBy, add, refuse, skip, onSkip, edgesIn, printed, noRecord, torn}
 use Rattle.listing.specs.Turn.{Turn}
-use Rattle.listing.specs.Keep.{mostBytes, fresh, keepAll, edgesAt}
+use Rattle.remains.specs.Keep.{mostBytes, fresh, keepAll, edgesAt}
 use Rattle.listing.proofs.Demand2 as two
 use Rattle.listing.proofs.Demand3 as three
+use Rattle.remains.proofs.Demand3 as found
 use Rattle.decoder.specs.Files.{readReference, countsIn, emptyTable, tableOf, basesInto, readsInto}
 use Rattle.decoder.specs.Decoder.{frontOf, listingOf, firstListed, restListed, linesListed, suppliedBy, suppliedOf, resumedOf, resumedAgainOf, Opened, setupIn}
 use Rattle.decoder.specs.Symbols.{symbolsTaken, RecordLine, AllTaken}
@@ -182,12 +183,12 @@ module _ (refFile unitFile : List ℕ) where
     pub lines-run-out : skip (bigAt 2 (unhex last) numberPlace + 1) (o .lines) ≡ none → suppliedBy refFile unitFile (edges (o .first) last) ≡ add (line05 (bigAt 2 (unhex last) numberPlace + 1) missing)
     lines-run-out = rw (opened-front o) (three.lines-run-out (setupIn o) (opened-lawful o) last line)
 
-  -- ---- what is kept, and where to go on: `Keep` and `place` (the pieces in which files are read are in listing's Demand3)
+  -- ---- what is kept, and where to go on: `Keep` and `place` (the pieces in which files are read: Demand3 of `remains` and of `resuming`)
 
   -- `place`, handed the two lines that `Keep` found in a found file, answers where resuming goes on
   pub place-by-keep : (found : List ℕ) → length found ≤ mostBytes
       → placeBy (firstListed refFile unitFile) (countOf (frontOf refFile unitFile)) (countsOf (frontOf refFile unitFile)) (edgesAt (keepAll fresh found) found) ≡ place (frontOf refFile unitFile) (edgesIn found)
-  place-by-keep = three.place-by-keep (frontOf refFile unitFile)
+  place-by-keep = found.place-by-keep (frontOf refFile unitFile)
 
 -- a refused resume prints only 05, ffff and its number
 pub refused-prints-one-line : (q : List ℕ) (n : ℕ) → printed q (refuse n) ≡ line05 noRecord n

@@ -16,22 +16,23 @@ use Rattle.frame.specs.declared.field.Cursor.{Cursor}
 use Rattle.frame.specs.declared.field.Field.{Field}
 use Rattle.frame.specs.declared.field.Field.the-variants.{Value, Short}
 use Rattle.frame.proofs.HexLaws.{bytes-unhex}
-use Rattle.unit.specs.Steps.{afterLine}
+use Rattle.frame.specs.Steps.{afterLine}
 use Rattle.unit.specs.Kinds.{kindUnit, kindPair, kindReference}
 use Rattle.unit.specs.Unit.{mostRecords, mostReference, classP, classU, lastAlphabet, mostSegments, leastSegments}
 use Rattle.unit.specs.State.{mostSymbols, subsequences, tableLength}
-use Rattle.unit.specs.UnitLine.{unitLine, unitClass, unitTemplate, unitEnds, unitNumber}
-use Rattle.unit.specs.PairLine.{pairLine, pairCount, pairSymbols, pairNumber, pairHead, symbolsAt, symbolBytes}
-use Rattle.unit.specs.ReferenceLine.{basesOf, addedBases, referenceLine, referenceNumber, mostLineBases}
+use Rattle.preface.specs.UnitLine.{unitLine, unitClass, unitTemplate, unitEnds, unitNumber}
+use Rattle.preface.specs.PairLine.{pairLine, pairCount, pairSymbols, pairNumber, pairHead, symbolsAt, symbolBytes}
+use Rattle.preface.specs.ReferenceLine.{basesOf, addedBases, referenceLine, referenceNumber, mostLineBases}
 use Rattle.unit.specs.declared.Unit.{Unit}
-use Rattle.unit.specs.declared.unit_line.UnitLine.{UnitLine}
-use Rattle.unit.specs.declared.unit_line.UnitLine.the-variants as unit
-use Rattle.unit.specs.declared.pair_line.PairLine.{PairLine}
-use Rattle.unit.specs.declared.pair_line.PairLine.the-variants as pair
-use Rattle.unit.specs.declared.reference_line.ReferenceLine.{ReferenceLine}
-use Rattle.unit.specs.declared.reference_line.ReferenceLine.the-variants as ref
-use Rattle.unit.proofs.UnitLaws.{unit-accepted, unit-valid, valid-is}
-use Rattle.unit.proofs.PairLaws.{pair-accepted, length-symbols}
+use Rattle.preface.specs.declared.unit_line.UnitLine.{UnitLine}
+use Rattle.preface.specs.declared.unit_line.UnitLine.the-variants as unit
+use Rattle.preface.specs.declared.pair_line.PairLine.{PairLine}
+use Rattle.preface.specs.declared.pair_line.PairLine.the-variants as pair
+use Rattle.preface.specs.declared.reference_line.ReferenceLine.{ReferenceLine}
+use Rattle.preface.specs.declared.reference_line.ReferenceLine.the-variants as ref
+use Rattle.unit.proofs.ValidLaws.{valid-is}
+use Rattle.preface.proofs.UnitLaws.{unit-accepted, unit-valid}
+use Rattle.preface.proofs.PairLaws.{pair-accepted, length-symbols}
 use Rattle.pairing.proofs.Taking.{by-test, one-of}
 use Rattle.listing.specs.Record.{FirstLine}
 use Rattle.listing.specs.Files.{Read, good, wrong}

@@ -8,14 +8,14 @@ use lib.ListN.{length, getD, take, length-replicate, length-append}
 use Rattle.frame.specs.Hex.{unhex}
 use Rattle.unit.specs.Unit.{mostReference}
 use Rattle.unit.specs.State.{subsequences, mostSymbols, symbolPlace, tableLength}
-use Rattle.unit.specs.Steps.{storedAt}
-use Rattle.unit.specs.PairLine.{tableBy, tableAfter}
-use Rattle.unit.specs.ReferenceLine.{basesOf, referenceLine, referenceAfter}
-use Rattle.unit.specs.declared.reference_line.ReferenceLine.{ReferenceLine}
-use Rattle.unit.specs.declared.reference_line.ReferenceLine.the-variants.{Bases, Refused}
-use Rattle.unit.proofs.ReferenceLaws.{reference-accepted, reference-joined, length-reference}
-use Rattle.unit.proofs.PairLaws.{length-table}
-use Rattle.unit.proofs.StoreLaws.{length-stored, stored-inside, stored-before}
+use Rattle.frame.specs.Steps.{storedAt}
+use Rattle.preface.specs.PairLine.{tableBy, tableAfter}
+use Rattle.preface.specs.ReferenceLine.{basesOf, referenceLine, referenceAfter}
+use Rattle.preface.specs.declared.reference_line.ReferenceLine.{ReferenceLine}
+use Rattle.preface.specs.declared.reference_line.ReferenceLine.the-variants.{Bases, Refused}
+use Rattle.preface.proofs.ReferenceLaws.{reference-accepted, reference-joined, length-reference}
+use Rattle.preface.proofs.PairLaws.{length-table}
+use Rattle.preface.proofs.StoreLaws.{length-stored, stored-inside, stored-before}
 use Rattle.unit.specs.declared.State.{State}
 use Rattle.pairing.specs.Take.{taken, symbolOf}
 use Rattle.listing.specs.Files.{good}

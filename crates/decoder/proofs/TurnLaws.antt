@@ -12,8 +12,8 @@ use borrow.Author.Tests.{lt-ltb, le-ltb, eq-eqb, ne-eqb}
 use Rattle.refusal.specs.Numbers.{missing}
 use Rattle.frame.specs.Hex.{hexOf, be}
 use Rattle.frame.specs.Line.{lineEnd}
-use Rattle.frame.specs.Whole.{wroteOf, lineInto}
-use Rattle.frame.specs.declared.lay.Wrote.{Wrote}
+use Rattle.writing.specs.Whole.{wroteOf, lineInto}
+use Rattle.writing.specs.declared.lay.Wrote.{Wrote}
 use Rattle.frame.proofs.LineLaws.{lineOfBytes, length-line}
 use Rattle.unit.specs.State.{subsequences}
 use Rattle.unit.specs.Listed.{mostListed, Step, refused, accepted}

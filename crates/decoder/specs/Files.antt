@@ -6,17 +6,17 @@ use lib.ListN.{length, replicate}
 use Rattle.frame.specs.Hex.{unhex}
 use Rattle.unit.specs.Unit.{mostReference}
 use Rattle.unit.specs.State.{symbolPlace, tableLength}
-use Rattle.unit.specs.Steps.{storedAt}
-use Rattle.unit.specs.UnitLine.{unitLine}
-use Rattle.unit.specs.PairLine.{pairHead, pairLine, symbolsAt, tableAfter}
-use Rattle.unit.specs.ReferenceLine.{basesOf, referenceLine, referenceAfter}
+use Rattle.frame.specs.Steps.{storedAt}
+use Rattle.preface.specs.UnitLine.{unitLine}
+use Rattle.preface.specs.PairLine.{pairHead, pairLine, symbolsAt, tableAfter}
+use Rattle.preface.specs.ReferenceLine.{basesOf, referenceLine, referenceAfter}
 use Rattle.unit.specs.declared.Unit.{Unit}
-use Rattle.unit.specs.declared.unit_line.UnitLine.{UnitLine}
-use Rattle.unit.specs.declared.unit_line.UnitLine.the-variants as unit
-use Rattle.unit.specs.declared.pair_line.PairLine.{PairLine}
-use Rattle.unit.specs.declared.pair_line.PairLine.the-variants as pair
-use Rattle.unit.specs.declared.reference_line.ReferenceLine.{ReferenceLine}
-use Rattle.unit.specs.declared.reference_line.ReferenceLine.the-variants as ref
+use Rattle.preface.specs.declared.unit_line.UnitLine.{UnitLine}
+use Rattle.preface.specs.declared.unit_line.UnitLine.the-variants as unit
+use Rattle.preface.specs.declared.pair_line.PairLine.{PairLine}
+use Rattle.preface.specs.declared.pair_line.PairLine.the-variants as pair
+use Rattle.preface.specs.declared.reference_line.ReferenceLine.{ReferenceLine}
+use Rattle.preface.specs.declared.reference_line.ReferenceLine.the-variants as ref
 use Rattle.listing.specs.Files.{Read, good, wrong}
 
 -- ---- 07 reference

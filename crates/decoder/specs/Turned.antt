@@ -7,8 +7,8 @@ use mathlib.Core.Option.{Option, none, some}
 use lib.Dec.{eqb, ltb}
 use lib.ListN.{length, drop}
 use Rattle.refusal.specs.Numbers.{fine, noRoom}
-use Rattle.frame.specs.declared.lay.Wrote.{Wrote}
-use Rattle.frame.specs.declared.lay.Wrote.the-variants as wrote
+use Rattle.writing.specs.declared.lay.Wrote.{Wrote}
+use Rattle.writing.specs.declared.lay.Wrote.the-variants as wrote
 use Rattle.unit.specs.Listed.{mostListed}
 use Rattle.unit.specs.declared.Unit.{Unit}
 use Rattle.unit.specs.declared.State.{State}

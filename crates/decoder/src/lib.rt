@@ -1,7 +1,7 @@
 // The decoder as a whole: each line that is added to a listing, by one call a line of the unit file.
-use frame::lay::Wrote;
 use listing::close;
 use record::Answer;
+use writing::lay::Wrote;
 use unit::State;
 use unit::Unit;
 use unit::listed::ListedLine;

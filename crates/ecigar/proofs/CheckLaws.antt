@@ -13,7 +13,7 @@ use lib.ListN.{length, length-append}
 use Rattle.refusal.specs.Numbers.{fine, misframed}
 use Rattle.frame.specs.Hex.{unhex}
 use Rattle.frame.proofs.HexLaws.{by-test, length-unhex}
-use Rattle.unit.specs.Table35.{sizeOf}
+use Rattle.alphabet.specs.Table35.{sizeOf}
 use Rattle.block.specs.Edits.{substitution, insertion, widthOf, editAt, editsAt, nextOffset, editRefusal, Sound, takenFrom}
 use Rattle.block.specs.Segment.{mostRead, mostEdits}
 use Rattle.block.specs.declared.edit.Edit.{Edit}

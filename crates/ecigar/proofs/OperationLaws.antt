@@ -11,7 +11,7 @@ use borrow.Author.Tests.{eq-eqb, ne-eqb, eqb-true, eqb-false}
 use lib.Dec.{eqb}
 use lib.ListN.{length, length-append}
 use Rattle.frame.proofs.HexLaws.{by-test}
-use Rattle.unit.specs.Table35.{sizeOf, letterOf}
+use Rattle.alphabet.specs.Table35.{sizeOf, letterOf}
 use Rattle.block.specs.Edits.{substitution, insertion, deletion, nextOffset, Sound, takenFrom}
 use Rattle.block.specs.Segment.{mostRead, mostEdits, mostEcigar, softBases, mappedLength}
 use Rattle.block.specs.declared.edit.Edit.{Edit}

@@ -8,9 +8,9 @@ use native.Mathlib.Omega.{arith}
 use borrow.Author.Tests.{ltb-true, ltb-false}
 use lib.Dec.{ltb}
 use lib.ListN.{length, length-append}
-use Rattle.frame.specs.Decimal.{decimal}
+use Rattle.writing.specs.Decimal.{decimal}
 use Rattle.frame.proofs.HexLaws.{by-test}
-use Rattle.frame.proofs.DecimalLaws.{length-small, length-more}
+use Rattle.writing.proofs.DecimalLaws.{length-small, length-more}
 use Rattle.ecigar.specs.Table90.{Operation, counted, print, printed}
 
 -- ---- how many digits a number has

@@ -11,7 +11,7 @@ use lib.Dec.{eqb}
 use lib.ListN.{length}
 use Rattle.frame.proofs.HexLaws.{by-test}
 use Rattle.unit.specs.Unit.{classP, classN, classM, classI, classHM}
-use Rattle.unit.specs.Table35.{letterN, letterOf, codeOfN, sizeOf}
+use Rattle.alphabet.specs.Table35.{letterN, letterOf, codeOfN, sizeOf}
 use Rattle.block.specs.Edits.{substitution, widthOf, editAt, editsAt, Sound}
 use Rattle.block.specs.Segment.{noClips, mappedLength}
 use Rattle.block.specs.declared.edit.Edit.{Edit}

@@ -10,9 +10,9 @@ use borrow.Author.Tests.{lt-ltb, le-ltb, eq-eqb, ne-eqb, eqb-true, eqb-false}
 use lib.Dec.{ltb, eqb}
 use lib.ListN.{length, drop, length-drop}
 use lib.Seq.{drop-drop}
-use Rattle.frame.specs.Decimal.{decimal}
+use Rattle.writing.specs.Decimal.{decimal}
 use Rattle.frame.proofs.HexLaws.{by-test}
-use Rattle.unit.specs.Table35.{letterOf}
+use Rattle.alphabet.specs.Table35.{letterOf}
 use Rattle.block.specs.Edits.{substitution, insertion, deletion, nextOffset, Sound}
 use Rattle.block.specs.declared.edit.Edit.{Edit}
 use Rattle.block.proofs.EditLaws.{Accepted, accepted, sound-head, sound-tail, next-deletion, next-other}

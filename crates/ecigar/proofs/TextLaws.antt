@@ -6,8 +6,8 @@ use Prim.Native.Nat.{ℕ, zero, suc, _+_, _-_, _*_, _<_, _≤_}
 use native.Mathlib.Omega.{arith}
 use native.Mathlib.Nat.{suc-mul}
 use lib.ListN.{length, length-append}
-use Rattle.frame.proofs.LayLaws.{Rest, rest-room}
-use Rattle.unit.specs.Table35.{sizeOf}
+use Rattle.writing.proofs.LayLaws.{Rest, rest-room}
+use Rattle.alphabet.specs.Table35.{sizeOf}
 use Rattle.block.specs.Edits.{widthOf, editAt, editsAt, nextOffset, Sound}
 use Rattle.block.specs.Segment.{mostEdits, mappedLength}
 use Rattle.block.specs.declared.edit.Edit.{Edit}

@@ -6,7 +6,7 @@ use mathlib.Core.List.{List}
 use lib.Dec.{ltb, eqb}
 use lib.ListN.{length}
 use Rattle.refusal.specs.Numbers.{fine, misframed, lengthOut, fieldOut}
-use Rattle.unit.specs.Table35.{sizeOf}
+use Rattle.alphabet.specs.Table35.{sizeOf}
 use Rattle.block.specs.Edits.{widthOf, editAt, editsAt, nextOffset, editRefusal, takenFrom}
 use Rattle.block.specs.Segment.{mostRead, mostEdits}
 use Rattle.ecigar.specs.Ecigar.{ecigarOf}

@@ -6,7 +6,7 @@ use mathlib.Core.Bool.{Bool, false, cond, not}
 use mathlib.Core.List.{List, [], _∷_, _++_, map}
 use lib.Dec.{eqb}
 use lib.ListN.{length}
-use Rattle.unit.specs.Table35.{letterOf}
+use Rattle.alphabet.specs.Table35.{letterOf}
 use Rattle.block.specs.Edits.{substitution, insertion, deletion, nextOffset, editsAt}
 use Rattle.unit.specs.Unit.{classP, classI, classHM}
 use Rattle.block.specs.Segment.{noClips, mappedLength}

@@ -6,10 +6,10 @@ use Prim.Native.String.{String, len, charAt}
 use Prim.Native.Char.{code}
 use mathlib.Core.Path.{_≡_, refl}
 use mathlib.Core.List.{List, [], _∷_, map}
-use Rattle.frame.specs.Decimal.{decimal, decimalF}
+use Rattle.writing.specs.Decimal.{decimal, decimalF}
 use Rattle.refusal.specs.Numbers.{offsetOut}
 use Rattle.unit.specs.Unit.{classP, classN, classM, classI}
-use Rattle.unit.specs.Table35.{sizeOf, letterOf, codeOfN}
+use Rattle.alphabet.specs.Table35.{sizeOf, letterOf, codeOfN}
 use Rattle.block.specs.Edits.{widthOf, editAt, editsAt, nextOffset, deletionRefusal, editRefusal, takenFrom}
 use Rattle.block.specs.Segment.{noClips, mappedLength}
 use Rattle.block.specs.declared.Clips.{Clips}

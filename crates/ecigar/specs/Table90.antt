@@ -2,7 +2,7 @@
 -- Assumes nothing.
 use Prim.Native.Nat.{ℕ, _+_, _≤_}
 use mathlib.Core.List.{List, [], _∷_, _++_}
-use Rattle.frame.specs.Decimal.{decimal}
+use Rattle.writing.specs.Decimal.{decimal}
 
 -- the rows of the table: a match, a substitution by a letter, an insertion, a deletion, a soft clip, a hard clip
 pub data Operation : Type 0 where

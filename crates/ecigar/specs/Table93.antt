@@ -7,9 +7,9 @@ use mathlib.Core.Bool.{cond, _&&_, _||_}
 use mathlib.Core.List.{List, [], _∷_, _++_}
 use lib.Dec.{ltb, eqb}
 use lib.ListN.{getD}
-use Rattle.frame.specs.Decimal.{decimal}
+use Rattle.writing.specs.Decimal.{decimal}
 use Rattle.unit.specs.Unit.{classP, classN, classM, classI, classHM}
-use Rattle.unit.specs.Table35.{letterN}
+use Rattle.alphabet.specs.Table35.{letterN}
 use Rattle.ecigar.specs.Table90.{equalsSign, plusSign, minusSign}
 
 -- inttostr(i): the base-10 representation

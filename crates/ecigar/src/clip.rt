@@ -2,11 +2,11 @@
 use crate::check::count_len;
 use crate::text::put_count;
 use block::Clips;
-use frame::lay::put_byte;
+use writing::lay::put_byte;
 ghost use mathlib.Core.Path.{_≡_};
 ghost use Prim.Native.Nat.{_+_, _*_, _≤_};
 ghost use lib.ListN.{length};
-ghost use Rattle.frame.specs.Lay.{Laid};
+ghost use Rattle.writing.specs.Lay.{Laid};
 ghost use Rattle.ecigar.specs.Table90.{printed};
 ghost use Rattle.ecigar.specs.Ecigar.{clip, clipsLength};
 

@@ -18,7 +18,7 @@ use Rattle.block.specs.Edits.{widthOf, editAt, editsAt, nextOffset, deletionRef
 use Rattle.ecigar.specs.Check.{editsRefusal, answered, editsChecked, checkOf}
 use Rattle.ecigar.specs.Ecigar.{joinsRun, past, matches, closed, gap, mark, ending, operationsFrom, clip, segmentOperations, ecigarText}
 use Rattle.ecigar.specs.Table90.{printed}
-use Rattle.frame.specs.Decimal.{decimalF, decimal}
+use Rattle.writing.specs.Decimal.{decimalF, decimal}
 use Rattle.frame.specs.Field.{bigAt, fieldAt}
 use Rattle.frame.specs.Hex.{isDigit, nib, unhex, allDigits, be}
 use Rattle.pairing.specs.Pairing.{decode, recordSteps, pairOf}
@@ -33,7 +33,7 @@ use Rattle.segment.specs.Part.{placed, placedAt, plainAt, alignedBytes, unalign
 use Rattle.segment.specs.Place.{placeRefusal}
 use Rattle.segment.specs.Symbols.{symbolsFrom}
 use Rattle.segment.specs.Unaligned.{fromLength, unalignedAt}
-use Rattle.unit.specs.Table35.{sizeOf, letterOf, codeOfN}
+use Rattle.alphabet.specs.Table35.{sizeOf, letterOf, codeOfN}
 use Rattle.record.specs.Record.{stepOf, linkBytes, listedBytes}
 
 -- ---- text

@@ -183,3 +183,9 @@ pub be-add : (j k n : ℕ) → be j (n / 256 ^ k) ++ be k n ≡ be (j + k) n
 unfolding be
 be-add zero k n = rw zero-add
 be-add (suc j) k n = rw (suc-add, be-add j k n, div-div-eq-div-mul, ← pow-add, add-comm k j)
+
+-- bytes behind bytes
+pub bytes-append : (xs ys : List ℕ) → Bytes xs → Bytes ys → Bytes (xs ++ ys)
+unfolding Bytes
+bytes-append [] ys p q = q
+bytes-append (x ∷ xs) ys p q = (p .0, bytes-append xs ys (p .1) q)

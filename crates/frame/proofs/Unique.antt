@@ -3,18 +3,14 @@
 use mathlib.Core.Path.{_≡_, sym, _∙_}
 use mathlib.Core.List.{List}
 use Prim.Native.Nat.{ℕ}
-use lib.ListN.{length, getD}
+use lib.ListN.{getD}
 use Rattle.frame.specs.Hex.{unhex}
 use Rattle.frame.specs.Line.{lineWithin}
 use Rattle.frame.specs.Next.{nextLine}
 use Rattle.frame.specs.Field.{fieldAt}
-use Rattle.frame.specs.Decimal.{decimal}
-use Rattle.frame.specs.Lay.{Laid}
-use Rattle.frame.specs.Whole.{wroteOf, lineInto}
 use Rattle.frame.specs.declared.line.Line.{Line}
 use Rattle.frame.specs.declared.line.Next.{Next}
 use Rattle.frame.specs.declared.field.Field.{Field}
-use Rattle.frame.specs.declared.lay.Wrote.{Wrote}
 
 -- an answer that equals a definition: every promise below is an instance, and the crates above cite it too
 pub once : {A : Type 0} {x y spec : A} → x ≡ spec → y ≡ spec → x ≡ y
@@ -34,13 +30,6 @@ byte-at-once l i p q = once p q
 pub field-once : (k : ℕ) (l : List ℕ) (at : ℕ) {x y : Field} → x ≡ fieldAt k (unhex l) at → y ≡ fieldAt k (unhex l) at → x ≡ y
 field-once k l at p q = once p q
 
-pub decimal-len-once : (n : ℕ) {x y : ℕ} → x ≡ length (decimal n) → y ≡ length (decimal n) → x ≡ y
-decimal-len-once n p q = once p q
-
--- every writer that promises `Laid`: the place that it answers and the lent line
-pub laid-once : (before : List ℕ) (at : ℕ) (bs : List ℕ) {after after′ : List ℕ} {r r′ : ℕ} → Laid before after at r bs → Laid before after′ at r′ bs → (r ≡ r′) × (after ≡ after′)
-laid-once before at bs f g = (once (f .to) (g .to), once (f .holds) (g .holds))
-
--- `write_line`: the answer and the lent output
-pub write-line-once : (s bs : List ℕ) {x y : Wrote} {after after′ : List ℕ} → x ≡ wroteOf s bs → y ≡ wroteOf s bs → after ≡ lineInto s bs → after′ ≡ lineInto s bs → (x ≡ y) × (after ≡ after′)
-write-line-once s bs p q f g = (once p q, once f g)
+-- an answer with lent memory
+pub both-once : {A B : Type 0} {x y z : A} {a b c : B} → (x ≡ z) × (a ≡ c) → (y ≡ z) × (b ≡ c) → (x ≡ y) × (a ≡ b)
+both-once p q = (once (p .0) (q .0), once (p .1) (q .1))

@@ -1,5 +1,3 @@
-// Text into bytes and back: lines of lower-case hexadecimal, the fields in them, and bytes laid into a lent line.
-pub mod decimal;
+// Text into bytes: lines of lower-case hexadecimal, and the fields in them.
 pub mod field;
-pub mod lay;
 pub mod line;

@@ -8,25 +8,25 @@ use lib.Dec.{eqb, ltb}
 use lib.IntN.{pos, negsuc, pos-ne-negsuc}
 use lib.ListN.{length}
 use Rattle.refusal.specs.Numbers.{fine}
-use Rattle.frame.specs.Whole.{wroteOf, lineInto}
+use Rattle.writing.specs.Whole.{wroteOf, lineInto}
 use Rattle.frame.proofs.HexLaws.{by-test}
 use Rattle.unit.specs.Listed.{Step, refused, accepted}
-use Rattle.unit.specs.UnitLine.{unitLine, unitBytes}
-use Rattle.unit.specs.PairLine.{pairLine}
-use Rattle.unit.specs.ReferenceLine.{referenceLine}
+use Rattle.preface.specs.UnitLine.{unitLine, unitBytes}
+use Rattle.preface.specs.PairLine.{pairLine}
+use Rattle.preface.specs.ReferenceLine.{referenceLine}
 use Rattle.unit.specs.State.{subsequences}
 use Rattle.unit.specs.declared.State.{State}
-use Rattle.unit.specs.declared.unit_line.UnitLine.{UnitLine}
-use Rattle.unit.specs.declared.unit_line.UnitLine.the-variants as unit
-use Rattle.unit.specs.declared.pair_line.PairLine.{PairLine}
-use Rattle.unit.specs.declared.pair_line.PairLine.the-variants as pair
-use Rattle.unit.specs.declared.reference_line.ReferenceLine.{ReferenceLine}
-use Rattle.unit.specs.declared.reference_line.ReferenceLine.the-variants as reference
+use Rattle.preface.specs.declared.unit_line.UnitLine.{UnitLine}
+use Rattle.preface.specs.declared.unit_line.UnitLine.the-variants as unit
+use Rattle.preface.specs.declared.pair_line.PairLine.{PairLine}
+use Rattle.preface.specs.declared.pair_line.PairLine.the-variants as pair
+use Rattle.preface.specs.declared.reference_line.ReferenceLine.{ReferenceLine}
+use Rattle.preface.specs.declared.reference_line.ReferenceLine.the-variants as reference
 use Rattle.record.specs.Record.{recordOf}
-use Rattle.listing.specs.Last.{placedOf}
+use Rattle.resuming.specs.Last.{placedOf}
 use Rattle.listing.specs.Resuming.{edgesFrom, placeBy}
-use Rattle.listing.specs.declared.place.Go.{Go}
-use Rattle.listing.specs.declared.place.Go.the-variants.{Afresh, Second, On, Over, Refused}
+use Rattle.resuming.specs.declared.place.Go.{Go}
+use Rattle.resuming.specs.declared.place.Go.the-variants.{Afresh, Second, On, Over, Refused}
 use Rattle.lampbuckle.specs.Answer.{Outcome}
 use Rattle.lampbuckle.specs.Numbers.{unitLength, unitOf, unitNumbersRefusal, stateLength, stateOf, keepLength}
 use Rattle.lampbuckle.specs.Lines.{unitAnswered, unitCall, pairAnswered, pairCall, referenceAnswered, referenceCall}

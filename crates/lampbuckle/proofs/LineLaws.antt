@@ -9,18 +9,18 @@ use lib.ListN.{length, set}
 use borrow.Author.Tests.{eq-eqb, ne-eqb}
 use Rattle.refusal.specs.Numbers.{unitOut, countOut}
 use Rattle.unit.specs.State.{subsequences}
-use Rattle.unit.specs.UnitLine.{unitLine}
-use Rattle.unit.specs.PairLine.{pairLine, tableAfter}
-use Rattle.unit.specs.ReferenceLine.{referenceLine, referenceAfter}
+use Rattle.preface.specs.UnitLine.{unitLine}
+use Rattle.preface.specs.PairLine.{pairLine, tableAfter}
+use Rattle.preface.specs.ReferenceLine.{referenceLine, referenceAfter}
 use Rattle.unit.specs.declared.Unit.{Unit}
-use Rattle.unit.specs.declared.unit_line.UnitLine.{UnitLine}
-use Rattle.unit.specs.declared.unit_line.UnitLine.the-variants as unit
-use Rattle.unit.specs.declared.pair_line.PairLine.{PairLine}
-use Rattle.unit.specs.declared.pair_line.PairLine.the-variants as pair
-use Rattle.unit.specs.declared.reference_line.ReferenceLine.{ReferenceLine}
-use Rattle.unit.specs.declared.reference_line.ReferenceLine.the-variants as reference
-use Rattle.unit.proofs.PairLaws.{table-kept, pair-accepted}
-use Rattle.unit.proofs.ReferenceLaws.{reference-kept, reference-accepted}
+use Rattle.preface.specs.declared.unit_line.UnitLine.{UnitLine}
+use Rattle.preface.specs.declared.unit_line.UnitLine.the-variants as unit
+use Rattle.preface.specs.declared.pair_line.PairLine.{PairLine}
+use Rattle.preface.specs.declared.pair_line.PairLine.the-variants as pair
+use Rattle.preface.specs.declared.reference_line.ReferenceLine.{ReferenceLine}
+use Rattle.preface.specs.declared.reference_line.ReferenceLine.the-variants as reference
+use Rattle.preface.proofs.PairLaws.{table-kept, pair-accepted}
+use Rattle.preface.proofs.ReferenceLaws.{reference-kept, reference-accepted}
 use Rattle.lampbuckle.specs.Answer.{minus, outcome}
 use Rattle.lampbuckle.specs.Numbers.{unitLength, unitNumbers}
 use Rattle.lampbuckle.specs.Lines.{unitCall, pairCall, referenceCall}

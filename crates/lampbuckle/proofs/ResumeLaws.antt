@@ -12,13 +12,13 @@ use borrow.Author.Tests.{eq-eqb, ne-eqb}
 use Rattle.refusal.specs.Numbers.{countOut, missing}
 use Rattle.frame.specs.Line.{lineEnd}
 use Rattle.unit.specs.State.{subsequences}
-use Rattle.listing.specs.Keep.{keepAll}
-use Rattle.listing.specs.Pass.{passOver}
+use Rattle.remains.specs.Keep.{keepAll}
+use Rattle.resuming.specs.Pass.{passOver}
 use Rattle.listing.specs.Resuming.{edgesFrom, placeBy}
-use Rattle.listing.specs.Last.{placedOf}
-use Rattle.listing.specs.declared.keep.Keep.{Keep}
-use Rattle.listing.specs.declared.pass.Passed.{Passed}
-use Rattle.listing.specs.declared.place.Placed.{Placed}
+use Rattle.resuming.specs.Last.{placedOf}
+use Rattle.remains.specs.declared.keep.Keep.{Keep}
+use Rattle.resuming.specs.declared.pass.Passed.{Passed}
+use Rattle.resuming.specs.declared.place.Placed.{Placed}
 use Rattle.lampbuckle.specs.Answer.{minus, Outcome, outcome}
 use Rattle.lampbuckle.specs.Numbers.{stateLength, keepLength, flag, keepNumbers, keepOf}
 use Rattle.lampbuckle.specs.Resume.{keepCall, byGo, placeCall, wantedLength, passCall}

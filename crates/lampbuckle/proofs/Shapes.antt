@@ -13,7 +13,7 @@ use Rattle.unit.specs.Unit.{mostReference, mostRecords, unitRefusal}
 use Rattle.unit.specs.State.{subsequences, tableLength}
 use Rattle.unit.specs.declared.Unit.{Unit}
 use Rattle.unit.specs.declared.State.{State}
-use Rattle.unit.proofs.UnitLaws.{valid-is}
+use Rattle.unit.proofs.ValidLaws.{valid-is}
 use Rattle.plan.specs.Lent.{countsOut, indexesOut, stateRefusal, lentRefusal}
 use Rattle.record.proofs.CallLaws.{lent-refused}
 use Rattle.lampbuckle.specs.Answer.{refuses}

@@ -9,11 +9,11 @@ use lib.IntN.{ℤ}
 use lib.ListN.{length}
 use borrow.Author.Tests.{ltb-true, eq-eqb, ne-eqb}
 use Rattle.refusal.specs.Numbers.{fine, unitOut}
-use Rattle.frame.specs.Whole.{wroteOf, lineInto}
-use Rattle.frame.specs.declared.lay.Wrote.{Wrote}
+use Rattle.writing.specs.Whole.{wroteOf, lineInto}
+use Rattle.writing.specs.declared.lay.Wrote.{Wrote}
 use Rattle.frame.proofs.HexLaws.{by-test}
 use Rattle.unit.specs.Unit.{unitRefusal}
-use Rattle.unit.specs.UnitLine.{unitBytes}
+use Rattle.preface.specs.UnitLine.{unitBytes}
 use Rattle.unit.specs.declared.Unit.{Unit}
 use Rattle.lampbuckle.specs.Answer.{minus, outcome}
 use Rattle.lampbuckle.specs.Numbers.{unitLength, unitOf, unitNumbersRefusal}

@@ -10,7 +10,7 @@ use Rattle.unit.specs.Unit.{mostRecords, unitRefusal}
 use Rattle.unit.specs.State.{subsequences}
 use Rattle.unit.specs.declared.Unit.{Unit}
 use Rattle.unit.specs.declared.State.{State}
-use Rattle.listing.specs.declared.keep.Keep.{Keep}
+use Rattle.remains.specs.declared.keep.Keep.{Keep}
 
 -- the numbers of a unit: the values of the unit line, in its order (document 01, Lines: 01 unit)
 abbrev pub unitLength : ℕ

@@ -8,15 +8,15 @@ use lib.ListN.{length, getD}
 use Rattle.refusal.specs.Numbers.{countOut, missing}
 use Rattle.unit.specs.State.{subsequences}
 use Rattle.unit.specs.declared.State.{State}
-use Rattle.listing.specs.Keep.{keepAll}
-use Rattle.listing.specs.Pass.{passOver}
+use Rattle.remains.specs.Keep.{keepAll}
+use Rattle.resuming.specs.Pass.{passOver}
 use Rattle.listing.specs.Resuming.{edgesFrom, placeBy}
-use Rattle.listing.specs.Last.{placedOf}
-use Rattle.listing.specs.declared.keep.Keep.{Keep}
-use Rattle.listing.specs.declared.pass.Passed.{Passed}
-use Rattle.listing.specs.declared.place.Go.{Go}
-use Rattle.listing.specs.declared.place.Go.the-variants.{Afresh, Second, On, Over, Refused}
-use Rattle.listing.specs.declared.place.Placed.{Placed}
+use Rattle.resuming.specs.Last.{placedOf}
+use Rattle.remains.specs.declared.keep.Keep.{Keep}
+use Rattle.resuming.specs.declared.pass.Passed.{Passed}
+use Rattle.resuming.specs.declared.place.Go.{Go}
+use Rattle.resuming.specs.declared.place.Go.the-variants.{Afresh, Second, On, Over, Refused}
+use Rattle.resuming.specs.declared.place.Placed.{Placed}
 use Rattle.lampbuckle.specs.Answer.{Outcome, counts, refuses}
 use Rattle.lampbuckle.specs.Numbers.{stateLength, stateNumbers, keepLength, flag, keepNumbers, keepOf}
 

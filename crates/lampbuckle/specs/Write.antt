@@ -6,10 +6,10 @@ use mathlib.Core.List.{List, [], _∷_}
 use lib.Dec.{eqb}
 use lib.IntN.{ℤ, pos}
 use Rattle.refusal.specs.Numbers.{fine, noRoom}
-use Rattle.frame.specs.Whole.{wroteOf, lineInto}
-use Rattle.frame.specs.declared.lay.Wrote.{Wrote}
-use Rattle.frame.specs.declared.lay.Wrote.the-variants.{Line, NoRoom}
-use Rattle.unit.specs.UnitLine.{unitBytes}
+use Rattle.writing.specs.Whole.{wroteOf, lineInto}
+use Rattle.writing.specs.declared.lay.Wrote.{Wrote}
+use Rattle.writing.specs.declared.lay.Wrote.the-variants.{Line, NoRoom}
+use Rattle.preface.specs.UnitLine.{unitBytes}
 use Rattle.lampbuckle.specs.Answer.{Outcome, outcome, minus, refuses}
 use Rattle.lampbuckle.specs.Numbers.{unitOf, unitNumbersRefusal}
 

@@ -1,5 +1,5 @@
 // A unit, a state, counts and what is known of a found file, as the numbers that a caller lends.
-use listing::keep::Keep;
+use remains::keep::Keep;
 use unit::State;
 use unit::Unit;
 ghost use mathlib.Core.Path.{_≡_};

@@ -2,8 +2,8 @@
 use crate::answer::counted;
 use crate::answer::refused;
 use crate::numbers;
-use listing::place::Go;
-use listing::place::Placed;
+use resuming::place::Go;
+use resuming::place::Placed;
 use unit::State;
 ghost use mathlib.Core.Path.{_≡_};
 ghost use mathlib.Core.List.{[], _∷_};
@@ -83,7 +83,7 @@ pub extern "C" fn lampbuckle_place(
         return refused(refusal::MISSING);
     }
     let all = numbers::read_counts(counts);
-    let p = listing::place::place(listed, count, all, first, last);
+    let p = resuming::place::place(listed, count, all, first, last);
     settle(p, state)
 }
 
@@ -95,7 +95,7 @@ pub extern "C" fn lampbuckle_pass(piece: &[u8], wanted: &mut [usize]) -> i64
     if wanted.len() != WANTED {
         return refused(refusal::MISSING);
     }
-    let p = listing::pass::pass(piece, wanted[0]);
+    let p = resuming::pass::pass(piece, wanted[0]);
     wanted[0] = p.left;
     counted(p.at)
 }

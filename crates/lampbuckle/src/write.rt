@@ -2,9 +2,9 @@
 use crate::answer::counted;
 use crate::answer::refused;
 use crate::numbers;
-use frame::lay::Wrote;
 use listing::close;
-use unit::unit_line;
+use preface::unit_line;
+use writing::lay::Wrote;
 ghost use mathlib.Core.Path.{_≡_};
 ghost use mathlib.Core.List.{[], _∷_};
 ghost use Rattle.listing.specs.Listing.{frame05, frame06};

@@ -1,28 +1,23 @@
 -- Demand 3, resuming, over demand 2's listing and any record call that keeps to `Lawful`. Each theorem is proved where it is cited from.
 -- Assumes nothing.
-use Prim.Native.Nat.{ℕ, suc, _+_, _-_, _<_, _≤_}
-use mathlib.Core.Path.{_≡_, refl, ap}
+use Prim.Native.Nat.{ℕ, suc, _+_, _-_, _<_}
+use mathlib.Core.Path.{_≡_, refl}
 use mathlib.Core.Logic.{_⊎_}
-use mathlib.Core.List.{List, [], _++_}
+use mathlib.Core.List.{List, []}
 use mathlib.Core.Option.{none, some}
 use lib.ListN.{length, take, drop}
 use Rattle.refusal.specs.Numbers.{missing, otherFirst, otherLast}
 use Rattle.frame.specs.Hex.{unhex}
 use Rattle.frame.specs.Field.{bigAt}
 use Rattle.unit.specs.Kinds.{kindRefused, kindDone}
-use Rattle.listing.specs.Lines.{linesOf, joined, kept}
+use Rattle.listing.specs.Lines.{joined, kept}
 use Rattle.unit.specs.Listed.{mostListed, numberPlace}
 use Rattle.listing.specs.Record.{Setup, Lawful}
 use Rattle.listing.specs.Listing.{Front, ready, line05, firstOf, listing, LawfulFront}
-use Rattle.listing.specs.Resuming.{bytes05, bytes06, stateAt, nothing, edges, edgesFrom, countOf, countsOf, place, ListedLine, ClosingLine, Continues, placeBy, add, refuse, skip, onSkip, supply, edgesIn, supplied, printed, noRecord, resumed, torn, resumedAgain}
+use Rattle.listing.specs.Resuming.{bytes05, bytes06, stateAt, nothing, edges, edgesFrom, ListedLine, ClosingLine, Continues, placeBy, add, refuse, skip, onSkip, supply, edgesIn, supplied, printed, noRecord, resumed, torn, resumedAgain}
 use Rattle.listing.specs.Turn.{run}
-use Rattle.listing.specs.Keep.{mostBytes, fresh, keepAll, edgesAt}
-use Rattle.listing.specs.Pass.{passed, passOver}
-use Rattle.listing.specs.declared.keep.Keep.{Keep}
 use Rattle.listing.proofs.ResumeLaws.{resume-whole, resume-exact, resume-again}
 use Rattle.listing.proofs.PlaceLaws.{afresh-whole, first-refused, last-refused, refused-only, closed-05, closed-06, believed, goes-on, run-out, place-near}
-use Rattle.listing.proofs.KeepLaws.{Known, keep-append, keep-known}
-use Rattle.listing.proofs.PassLaws.{linesIn, skip-passed, pass-piece}
 
 -- ---- what is printed
 
@@ -93,29 +88,9 @@ pub lines-run-out : (E : Setup) → Lawful E → (last : List ℕ) → ListedLin
     → supply (ready E) (edges (E .first) last) ≡ add (line05 (bigAt 2 (unhex last) numberPlace + 1) missing)
 lines-run-out = run-out
 
--- ---- what the code knows: `Keep` and `pass`, in pieces of any size
-
--- a found file read to its end: how many bytes are kept, which they are, and where the first and the last kept line stand
-pub keep-knows-the-edges : (found : List ℕ) → length found ≤ mostBytes → Known found (keepAll fresh found)
-keep-knows-the-edges = keep-known
-
--- so `place`, handed the two lines that `Keep` found, answers where resuming goes on
-pub place-by-keep : (F : Front) (found : List ℕ) → length found ≤ mostBytes
-    → placeBy (firstOf F) (countOf F) (countsOf F) (edgesAt (keepAll fresh found) found) ≡ place F (edgesIn found)
-unfolding place
-place-by-keep F found h = ap (placeBy (firstOf F) (countOf F) (countsOf F)) (keep-known found h .edge)
+-- ---- what a program needs of the found file
 
 -- so much of the two lines as a buffer of n bytes holds is enough to know where to go on
 pub edges-by-a-buffer : (first : List ℕ) (count : ℕ) (counts : List ℕ) (n : ℕ) (a z : List ℕ) → length first < n → mostListed + 1 < n
     → placeBy first count counts (edgesFrom (take n a) (take n z)) ≡ placeBy first count counts (edgesFrom a z)
 edges-by-a-buffer = place-near
-
-pub keep-by-pieces : (k : Keep) (xs ys : List ℕ) → keepAll k (xs ++ ys) ≡ keepAll (keepAll k xs) ys
-keep-by-pieces = keep-append
-
--- to pass over lines is to count their 0A
-pub skip-counts-ends : (j : ℕ) (file : List ℕ) → skip j (linesOf file) ≡ linesIn (passed j file)
-skip-counts-ends = skip-passed
-
-pub pass-by-pieces : (want : ℕ) (xs ys : List ℕ) → passed want (xs ++ ys) ≡ passed (passOver want xs .left) (drop (passOver want xs .at) xs ++ ys)
-pass-by-pieces = pass-piece

@@ -8,6 +8,4 @@ pub mod TurnLaws
 pub mod ResumeLaws
 pub mod PlaceLaws
 pub mod FilesLaws
-pub mod KeepLaws
-pub mod PassLaws
 pub mod Sample

@@ -21,10 +21,6 @@ use Rattle.unit.specs.Listed.{mostListed, numberPlace, indexPlace}
 use Rattle.listing.specs.Record.{Setup, Lawful}
 use Rattle.listing.specs.Listing.{Front, alone, unpaired, ready, line05, firstOf, restOf, listing, LawfulFront}
 use Rattle.listing.specs.Resuming.{Last, goOn, whole, bad, bytes05, bytes06, stateAt, lastOf, nothing, edges, edgesFrom, onLast, placeBy, countOf, countsOf, place, ListedLine, ClosingLine, Continues, isFirst, isListed, isRefused, isDone, add, refuse, skip, onSkip, from, added, supply}
-use Rattle.listing.specs.Last.{saidOf, barePlaced, placedOf}
-use Rattle.listing.specs.declared.last.Said.{Said}
-use Rattle.listing.specs.declared.last.Listed.the-variants.{GoOn, Whole, Bad}
-use Rattle.listing.specs.declared.place.Go.the-variants.{On, Over, Refused}
 use Rattle.listing.proofs.LinesLaws.{same-refl, same-true, same-false, same-not, same-near}
 use Rattle.listing.specs.Turn.{run}
 use Rattle.listing.proofs.TurnLaws.{run-records}
@@ -171,23 +167,3 @@ place-near first count counts n a z h k =
     empty a = by-test (eqb (length a) 0)
         (λ t. rw (t, eq-eqb (length (take n a)) 0 (omega (arith, length-take n a, eqb-true (length a) 0 t))))
         (λ t. let some : length a ≡ 0 → ⊥ = eqb-false (length a) 0 t in rw (t, ne-eqb (length (take n a)) 0 (λ e. some (omega (arith, length-take n a, e)))))
-
--- ---- the code's answer of the last line, turned into a place
-
-pub told-on : (t : Last) (r : Said) → r ≡ saidOf t → r .says ≡ GoOn → record { go = On; state = r .state } ≡ placedOf (onLast t)
-unfolding saidOf placedOf
-told-on (goOn s) r e h = rw e
-told-on whole r e h = let q : Whole ≡ GoOn = sym (ap (λ (x : Said). x .says) e) ∙ h in absurd (let z : _≡_ {A = ℕ} 0 1 = cc in omega arith)
-told-on bad r e h = let q : Bad ≡ GoOn = sym (ap (λ (x : Said). x .says) e) ∙ h in absurd (let z : _≡_ {A = ℕ} 0 1 = cc in omega arith)
-
-pub told-whole : (t : Last) (r : Said) → r ≡ saidOf t → r .says ≡ Whole → barePlaced Over ≡ placedOf (onLast t)
-unfolding saidOf placedOf
-told-whole (goOn s) r e h = let q : GoOn ≡ Whole = sym (ap (λ (x : Said). x .says) e) ∙ h in absurd (let z : _≡_ {A = ℕ} 0 1 = cc in omega arith)
-told-whole whole r e h = refl
-told-whole bad r e h = let q : Bad ≡ Whole = sym (ap (λ (x : Said). x .says) e) ∙ h in absurd (let z : _≡_ {A = ℕ} 0 1 = cc in omega arith)
-
-pub told-bad : (t : Last) (r : Said) → r ≡ saidOf t → r .says ≡ Bad → barePlaced (Refused otherLast) ≡ placedOf (onLast t)
-unfolding saidOf placedOf
-told-bad (goOn s) r e h = let q : GoOn ≡ Bad = sym (ap (λ (x : Said). x .says) e) ∙ h in absurd (let z : _≡_ {A = ℕ} 0 1 = cc in omega arith)
-told-bad whole r e h = let q : Whole ≡ Bad = sym (ap (λ (x : Said). x .says) e) ∙ h in absurd (let z : _≡_ {A = ℕ} 0 1 = cc in omega arith)
-told-bad bad r e h = refl

@@ -4,6 +4,3 @@ pub mod Listing
 pub mod Files
 pub mod Resuming
 pub mod Turn
-pub mod Keep
-pub mod Pass
-pub mod Last

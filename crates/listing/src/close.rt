@@ -1,10 +1,10 @@
 // The last line of a listing, and the only one of a refused resume.
-use frame::lay::Wrote;
-use frame::lay::write_line;
+use writing::lay::Wrote;
+use writing::lay::write_line;
 use unit::kind::Kind;
 ghost use mathlib.Core.Path.{_≡_};
 ghost use Prim.Native.Nat.{_%_};
-ghost use Rattle.frame.specs.Whole.{wroteOf, lineInto};
+ghost use Rattle.writing.specs.Whole.{wroteOf, lineInto};
 ghost use Rattle.listing.specs.Listing.{frame05, frame06};
 
 // The record number of a refused resume.

@@ -1,6 +1,2 @@
-// A listing that was stopped, gone on with: what of it is kept, where to go on, how far the unit file is passed over; and a listing's last line.
+// A listing and its last line. What a listing is, and what resuming adds to one that was cut off, is in specs/.
 pub mod close;
-pub mod keep;
-pub mod last;
-pub mod pass;
-pub mod place;

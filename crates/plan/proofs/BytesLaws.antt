@@ -8,12 +8,11 @@ use borrow.Author.Tests.{ltb-true, leb-true, leb-false}
 use lib.Dec.{ltb, leb, eqb, lit<}
 use lib.ListN.{length, getD}
 use Rattle.frame.specs.Hex.{Bytes, be}
-use Rattle.frame.specs.Decimal.{decimalF, decimal}
-use Rattle.frame.proofs.HexLaws.{by-test, bytes-be}
-use Rattle.unit.specs.Table35.{sizeOf, letterOf}
+use Rattle.writing.specs.Decimal.{decimalF, decimal}
+use Rattle.frame.proofs.HexLaws.{by-test, bytes-be, bytes-append}
+use Rattle.alphabet.specs.Table35.{sizeOf, letterOf}
 use Rattle.unit.specs.declared.Unit.{Unit}
-use Rattle.unit.proofs.AlphabetLaws.{inside, outside}
-use Rattle.unit.proofs.UnitLaws.{bytes-append}
+use Rattle.alphabet.proofs.AlphabetLaws.{inside, outside}
 use Rattle.pairing.proofs.Taking.{one-of}
 use Rattle.block.specs.Edits.{substitution, insertion, deletion}
 use Rattle.block.specs.Segment.{mappedLength}

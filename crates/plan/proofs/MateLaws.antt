@@ -15,7 +15,7 @@ use Rattle.frame.proofs.HexLaws.{by-test}
 use Rattle.unit.specs.Unit.{classHM, classU, mostSegments}
 use Rattle.unit.specs.declared.Unit.{Unit as UnitOf}
 use Rattle.unit.specs.declared.State.{State}
-use Rattle.unit.proofs.UnitLaws.{UnitValid}
+use Rattle.unit.proofs.ValidLaws.{UnitValid}
 use Rattle.pairing.specs.Table60.{Steps, mappingPos, mateAt, HM-same-rec, same-rec, split, diff-ref-seq, table60}
 use Rattle.pairing.specs.Pairing.{recordSteps, pairOf}
 use Rattle.pairing.specs.declared.Mate.{Mate}

@@ -18,7 +18,7 @@ use Rattle.unit.specs.Kinds.{kindRecord}
 use Rattle.unit.specs.Unit.{classHM, classU, mostSegments}
 use Rattle.unit.specs.declared.Unit.{Unit}
 use Rattle.unit.specs.declared.State.{State}
-use Rattle.unit.proofs.StepLaws.{past-line, past-field, past-refusal, past-match}
+use Rattle.frame.proofs.StepLaws.{past-line, past-field, past-refusal, past-match}
 use Rattle.pairing.specs.Pairing.{pairOf}
 use Rattle.pairing.specs.declared.Answer.{Answer}
 use Rattle.pairing.specs.declared.Answer.the-variants as pair

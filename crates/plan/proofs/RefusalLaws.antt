@@ -17,9 +17,9 @@ use Rattle.frame.specs.declared.field.Cursor.{Cursor}
 use Rattle.frame.specs.declared.field.Field.{Field}
 use Rattle.frame.specs.declared.field.Field.the-variants as field
 use Rattle.unit.specs.Kinds.{kindRecord}
-use Rattle.unit.specs.Steps.{afterLine}
+use Rattle.frame.specs.Steps.{afterLine}
 use Rattle.unit.specs.State.{subsequences, tableLength}
-use Rattle.unit.specs.Table35.{sizeOf}
+use Rattle.alphabet.specs.Table35.{sizeOf}
 use Rattle.unit.specs.Unit.{classP, classI, classHM, classU, lastAlphabet, mostSegments, mostSequence, mostRecords, mostReference, leastSegments, unitRefusal}
 use Rattle.unit.specs.declared.Unit.{Unit as UnitOf}
 use Rattle.unit.specs.declared.State.{State}

@@ -14,8 +14,8 @@ use Rattle.unit.specs.Unit.{mostReference, unitRefusal}
 use Rattle.unit.specs.State.{subsequences, mostSymbols, tableLength}
 use Rattle.unit.specs.declared.Unit.{Unit}
 use Rattle.unit.specs.declared.State.{State}
-use Rattle.unit.proofs.StepLaws.{past-refusal, past-match}
-use Rattle.unit.proofs.UnitLaws.{UnitValid, valid-is}
+use Rattle.frame.proofs.StepLaws.{past-refusal, past-match}
+use Rattle.unit.proofs.ValidLaws.{UnitValid, valid-is}
 use Rattle.plan.specs.Lent.{countsOut, indexesOut, stateRefusal, lentRefusal}
 
 -- no count is above the limit

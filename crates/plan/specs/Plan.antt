@@ -11,7 +11,7 @@ use Rattle.frame.specs.Hex.{unhex}
 use Rattle.frame.specs.Line.{lineOf}
 use Rattle.frame.specs.Field.{fieldAt, afterField}
 use Rattle.unit.specs.Kinds.{kindRecord}
-use Rattle.unit.specs.Steps.{afterLine}
+use Rattle.frame.specs.Steps.{afterLine}
 use Rattle.unit.specs.Unit.{classHM, classU, mostSegments}
 use Rattle.unit.specs.declared.Unit.{Unit}
 use Rattle.unit.specs.declared.State.{State}

@@ -7,7 +7,7 @@ use lib.Dec.{ltb}
 use lib.ListN.{length}
 use Rattle.frame.specs.Hex.{be}
 use Rattle.frame.specs.Field.{fieldAt}
-use Rattle.frame.specs.Lay.{lay}
+use Rattle.writing.specs.Lay.{lay}
 use Rattle.frame.specs.declared.line.Line.{Line}
 use Rattle.frame.specs.declared.line.Line.the-variants.{Frame, Malformed}
 use Rattle.frame.specs.declared.field.Field.{Field}

@@ -54,7 +54,7 @@ pub extern "C" fn probe_lay(out: &mut [u8], fields: u32)
     let mut at = 0;
     let mut left = fields;
     while 0 < left {
-        at = frame::lay::put_u32(out, at, left);
+        at = writing::lay::put_u32(out, at, left);
         left -= 1;
     }
 }

@@ -6,12 +6,11 @@ use Prim.Native.Nat.{ℕ, _+_, _*_}
 use native.Mathlib.Omega.{arith}
 use lib.ListN.{length, length-append}
 use Rattle.frame.specs.Hex.{Bytes, be}
-use Rattle.frame.proofs.HexLaws.{length-be, bytes-be}
+use Rattle.frame.proofs.HexLaws.{length-be, bytes-be, bytes-append}
 use Rattle.unit.specs.Kinds.{kindListed}
 use Rattle.unit.specs.Listed.{words, headOf}
 use Rattle.unit.specs.declared.Unit.{Unit}
 use Rattle.unit.specs.declared.State.{State}
-use Rattle.unit.proofs.UnitLaws.{bytes-append}
 use Rattle.pairing.specs.Table60.{mateSeqId, mappingPos}
 use Rattle.pairing.specs.declared.Link.{Link}
 use Rattle.segment.specs.Part.{partBytes, partLength}

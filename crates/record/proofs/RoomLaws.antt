@@ -7,9 +7,9 @@ use native.Mathlib.Nat.{zero-add}
 use borrow.Author.Tests.{lt-ltb, le-ltb}
 use lib.ListN.{length, set}
 use Rattle.refusal.specs.Numbers.{noRoom}
-use Rattle.frame.specs.Lay.{Laid}
+use Rattle.writing.specs.Lay.{Laid}
 use Rattle.frame.specs.Line.{lineEnd}
-use Rattle.frame.proofs.WholeLaws.{line-eq}
+use Rattle.writing.proofs.WholeLaws.{line-eq}
 use Rattle.unit.specs.Listed.{accepted}
 use Rattle.unit.specs.declared.State.{State}
 use Rattle.record.specs.Record.{refusedBy, listedBy, recorded, output, withRoom}

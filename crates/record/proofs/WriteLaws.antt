@@ -9,7 +9,7 @@ use lib.ListN.{length, getD, drop, drop-of-length-le}
 use lib.Seq.{drop-cons}
 use Rattle.frame.specs.Hex.{be}
 use Rattle.frame.proofs.HexLaws.{length-be}
-use Rattle.frame.proofs.LayLaws.{Rest, rest-room}
+use Rattle.writing.proofs.LayLaws.{Rest, rest-room}
 use Rattle.unit.specs.Listed.{words}
 
 -- ---- the indexes, one after the other

@@ -1,17 +1,17 @@
 // The 04 line of a record that is checked, laid into the lent line.
-use frame::lay::put_u8;
-use frame::lay::put_u16;
-use frame::lay::put_u32;
 use pairing::Link;
 use plan::read::Plan;
 use segment::write as segment_write;
+use writing::lay::put_u8;
+use writing::lay::put_u16;
+use writing::lay::put_u32;
 use unit::State;
 use unit::Unit;
 use unit::kind::Kind;
 ghost use Prim.Native.Nat.{_+_, _*_, _≤_};
 ghost use lib.ListN.{length};
 ghost use Rattle.frame.specs.Hex.{unhex};
-ghost use Rattle.frame.specs.Lay.{Laid};
+ghost use Rattle.writing.specs.Lay.{Laid};
 ghost use Rattle.unit.specs.Listed.{words, headOf};
 ghost use Rattle.plan.specs.Plan.{ReadyPlan};
 ghost use Rattle.record.specs.Record.{linkBytes, listedBytes};

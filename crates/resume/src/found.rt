@@ -1,18 +1,18 @@
 // The found file: what of it is kept, where the listing goes on behind it, and the kept bytes written again.
-use frame::lay::Wrote;
 use libc::STDERR_FILENO;
-use listing::keep::Keep;
-use listing::place::Go;
-use listing::place::place;
+use preface::unit_line::UnitLine;
+use remains::keep::Keep;
+use resuming::place::Go;
+use resuming::place::place;
 use stream::sink::write;
 use stream::source::Source;
 use stream::source::piece;
 use stream::source::ready;
 use supply::front::Front;
 use supply::rest::write_first;
+use writing::lay::Wrote;
 use unit::State;
 use unit::listed::ListedLine;
-use unit::unit_line::UnitLine;
 ghost use Prim.Native.Nat.{_≤_};
 ghost use lib.ListN.{length};
 ghost use Rattle.resume.specs.Found.{EdgeWithin};

@@ -8,7 +8,7 @@ use found::find;
 use libc::STDERR_FILENO;
 use libc::STDOUT_FILENO;
 use listing::close::NO_RECORD;
-use listing::place::Go;
+use resuming::place::Go;
 use stream::args::asks_help;
 use stream::args::is_whole;
 use stream::sink::Sink;

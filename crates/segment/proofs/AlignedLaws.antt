@@ -15,7 +15,7 @@ use Rattle.block.specs.Edits.{widthOf, editsAt}
 use Rattle.block.specs.Segment.{mostRead, mostEdits}
 use Rattle.block.proofs.EditLaws.{width-most, length-edits}
 use Rattle.block.specs.declared.Clips.{Clips}
-use Rattle.unit.specs.Table35.{sizeOf}
+use Rattle.alphabet.specs.Table35.{sizeOf}
 use Rattle.ecigar.specs.Ecigar.{clipsLength}
 use Rattle.ecigar.proofs.OperationLaws.{ClipsFit, clip-most, edits-most}
 use Rattle.ecigar.specs.Check.{endsWithin, editsRefusal, answered, editsChecked, checkOf}

@@ -15,8 +15,8 @@ use Rattle.frame.proofs.HexLaws.{by-test}
 use Rattle.frame.proofs.FieldLaws.{bigAt-lt}
 use Rattle.unit.specs.declared.Unit.{Unit}
 use Rattle.unit.specs.Unit.{classP, classI}
-use Rattle.unit.specs.Table35.{sizeOf}
-use Rattle.unit.proofs.StepLaws.{past-field, past-refusal}
+use Rattle.alphabet.specs.Table35.{sizeOf}
+use Rattle.frame.proofs.StepLaws.{past-field, past-refusal}
 use Rattle.block.specs.declared.Clips.{Clips}
 use Rattle.block.specs.declared.Segment.{Segment}
 use Rattle.block.specs.Segment.{mostRead, mostEdits, noClips, softBases, mappedLength}

@@ -8,7 +8,7 @@ use native.Mathlib.Omega.{arith}
 use borrow.Author.Tests.{le-leb, lt-leb}
 use lib.ListN.{length, getD}
 use Rattle.refusal.specs.Numbers.{misframed, symbolOut}
-use Rattle.unit.specs.Table35.{sizeOf}
+use Rattle.alphabet.specs.Table35.{sizeOf}
 use Rattle.segment.specs.declared.checked.Checked.the-variants.{Value, Refused}
 use Rattle.segment.specs.Symbols.{symbolsFrom}
 

@@ -5,7 +5,7 @@ use mathlib.Core.Path.{_≡_}
 use mathlib.Core.List.{List}
 use lib.ListN.{length}
 use Rattle.unit.specs.declared.Unit.{Unit as UnitOf}
-use Rattle.unit.specs.Table35.{sizeOf}
+use Rattle.alphabet.specs.Table35.{sizeOf}
 use Rattle.block.specs.Segment.{mostEdits, mappedLength}
 use Rattle.block.specs.Edits.{widthOf, Sound}
 use Rattle.ecigar.specs.Ecigar.{segmentEdits, ecigarText}

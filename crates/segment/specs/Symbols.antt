@@ -6,7 +6,7 @@ use mathlib.Core.List.{List}
 use lib.Dec.{leb}
 use lib.ListN.{length, getD}
 use Rattle.refusal.specs.Numbers.{misframed, symbolOut}
-use Rattle.unit.specs.Table35.{sizeOf}
+use Rattle.alphabet.specs.Table35.{sizeOf}
 use Rattle.segment.specs.declared.checked.Checked.{Checked}
 use Rattle.segment.specs.declared.checked.Checked.the-variants.{Value, Refused}
 

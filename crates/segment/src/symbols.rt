@@ -2,7 +2,6 @@
 use crate::checked::Checked;
 use frame::field::Cursor;
 use frame::field::byte_at;
-use unit::alphabet;
 ghost use mathlib.Core.Path.{_≡_};
 ghost use Rattle.frame.specs.Hex.{unhex};
 ghost use Rattle.segment.specs.Symbols.{symbolsAt};

@@ -2,15 +2,15 @@
 use crate::part::Part;
 use crate::part::Placed;
 use crate::unaligned::Unaligned;
-use frame::lay::put_u8;
-use frame::lay::put_u16;
-use frame::lay::put_u32;
+use writing::lay::put_u8;
+use writing::lay::put_u16;
+use writing::lay::put_u32;
 use unit::Unit;
 ghost use mathlib.Core.Path.{_≡_};
 ghost use Prim.Native.Nat.{_+_, _*_, _≤_};
 ghost use lib.ListN.{length};
 ghost use Rattle.frame.specs.Hex.{unhex};
-ghost use Rattle.frame.specs.Lay.{Laid};
+ghost use Rattle.writing.specs.Lay.{Laid};
 ghost use Rattle.segment.specs.Part.{alignedBytes, unalignedBytes, partBytes};
 ghost use Rattle.segment.specs.Ready.{Ready, ReadyAligned, ReadyUnaligned};
 

@@ -18,9 +18,9 @@ use Rattle.frame.specs.declared.line.Next.{Next}
 use Rattle.frame.specs.declared.line.Next.the-variants.{Whole, TooLong, NoEnd, Nothing}
 use Rattle.frame.proofs.HexLaws.{by-test, false-true}
 use Rattle.frame.proofs.NextLaws.{window-le}
-use Rattle.listing.specs.Pass.{passOver}
+use Rattle.resuming.specs.Pass.{passOver}
 use Rattle.stream.specs.Source.{unreadable, Held, Leads, Some, Filled, Refilled, Ready, bytesBy, lineBytes, HandedLine}
-use Rattle.listing.specs.declared.pass.Passed.{Passed}
+use Rattle.resuming.specs.declared.pass.Passed.{Passed}
 use Rattle.stream.specs.declared.source.Source.{Source}
 use Rattle.stream.specs.declared.source.Taken.{Taken}
 

@@ -3,8 +3,8 @@
 use Prim.Native.Nat.{ℕ, _+_, _-_, _<_, _≤_}
 use mathlib.Core.Bool.{true, false, cond}
 use lib.Dec.{ltb}
-use Rattle.frame.specs.declared.lay.Wrote.{Wrote}
-use Rattle.frame.specs.declared.lay.Wrote.the-variants.{Line, NoRoom}
+use Rattle.writing.specs.declared.lay.Wrote.{Wrote}
+use Rattle.writing.specs.declared.lay.Wrote.the-variants.{Line, NoRoom}
 use Rattle.unit.specs.Listed.{mostListed}
 use Rattle.stream.specs.declared.sink.Sink.{Sink}
 

@@ -1,7 +1,7 @@
 // Lines gathered in a lent buffer for standard output, and written in large pieces.
-use frame::lay::Wrote;
 use libc::STDOUT_FILENO;
 use listing::close;
+use writing::lay::Wrote;
 use unit::listed::ListedLine;
 ghost use mathlib.Core.Path.{_≡_};
 ghost use lib.ListN.{length};

@@ -3,7 +3,7 @@ use frame::line::Line;
 use frame::line::Next;
 use frame::line::next_line;
 use libc::SEEK_SET;
-use listing::pass::pass;
+use resuming::pass::pass;
 ghost use mathlib.Core.Path.{_≡_};
 ghost use Prim.Native.Nat.{_+_, _≤_};
 ghost use lib.ListN.{length, take as takeList};

@@ -10,9 +10,9 @@ use Rattle.frame.specs.Hex.{unhex}
 use Rattle.frame.specs.Field.{bigAt}
 use Rattle.frame.specs.Line.{lineOf}
 use Rattle.unit.specs.Kinds.{kindReference}
-use Rattle.unit.specs.ReferenceLine.{basesOf, addedBases, referenceLine}
-use Rattle.unit.specs.declared.reference_line.ReferenceLine.the-variants.{Bases, Refused}
-use Rattle.unit.proofs.StepLaws.{past-line, past-field, past-match, past-refusal}
+use Rattle.preface.specs.ReferenceLine.{basesOf, addedBases, referenceLine}
+use Rattle.preface.specs.declared.reference_line.ReferenceLine.the-variants.{Bases, Refused}
+use Rattle.frame.proofs.StepLaws.{past-line, past-field, past-match, past-refusal}
 use Rattle.supply.specs.Front.{Grown}
 
 refused-is-not : (k n : ℕ) → Refused k ≡ Bases n → ⊥

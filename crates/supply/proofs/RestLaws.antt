@@ -7,10 +7,10 @@ use mathlib.Core.List.{List}
 use lib.Dec.{ltb}
 use lib.ListN.{length}
 use borrow.Author.Tests.{ltb-true}
-use Rattle.frame.specs.Whole.{wroteOf}
-use Rattle.frame.specs.declared.lay.Wrote.the-variants.{Line, NoRoom}
+use Rattle.writing.specs.Whole.{wroteOf}
+use Rattle.writing.specs.declared.lay.Wrote.the-variants.{Line, NoRoom}
 use Rattle.frame.proofs.HexLaws.{by-test}
-use Rattle.unit.specs.UnitLine.{unitBytes}
+use Rattle.preface.specs.UnitLine.{unitBytes}
 use Rattle.listing.specs.Listing.{frame05}
 use Rattle.supply.specs.Rest.{firstWrote}
 use Rattle.supply.specs.declared.front.Front.{Front}

@@ -2,10 +2,10 @@
 -- Assumes nothing.
 use Prim.Native.Nat.{ℕ}
 use mathlib.Core.List.{List}
-use Rattle.frame.specs.Whole.{wroteOf, lineInto}
-use Rattle.frame.specs.declared.lay.Wrote.{Wrote}
-use Rattle.frame.specs.declared.lay.Wrote.the-variants.{NoRoom}
-use Rattle.unit.specs.UnitLine.{unitBytes}
+use Rattle.writing.specs.Whole.{wroteOf, lineInto}
+use Rattle.writing.specs.declared.lay.Wrote.{Wrote}
+use Rattle.writing.specs.declared.lay.Wrote.the-variants.{NoRoom}
+use Rattle.preface.specs.UnitLine.{unitBytes}
 use Rattle.listing.specs.Listing.{frame05}
 use Rattle.supply.specs.declared.front.Front.{Front}
 use Rattle.supply.specs.declared.front.Front.the-variants.{Unread, Alone, Unpaired, Ready}

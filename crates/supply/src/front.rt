@@ -1,14 +1,14 @@
 // The front of the two files: the reference, which is read first and whole, then the unit line and the pair lines.
+use preface::pair_line;
+use preface::pair_line::PairLine;
+use preface::reference_line;
+use preface::reference_line::ReferenceLine;
+use preface::unit_line;
+use preface::unit_line::UnitLine;
 use stream::source::Source;
 use stream::source::take;
 use unit::State;
 use unit::Unit;
-use unit::pair_line;
-use unit::pair_line::PairLine;
-use unit::reference_line;
-use unit::reference_line::ReferenceLine;
-use unit::unit_line;
-use unit::unit_line::UnitLine;
 ghost use Rattle.supply.specs.Front.{Grows};
 
 // How far the front can be read.

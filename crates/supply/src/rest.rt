@@ -3,16 +3,16 @@ use crate::front::Front;
 use crate::front::Opened;
 use decoder::Added;
 use decoder::turn;
-use frame::lay::Wrote;
 use listing::close;
+use preface::unit_line;
 use stream::sink::Sink;
 use stream::sink::with_refused;
 use stream::source::Source;
 use stream::source::pass_lines;
 use stream::source::take;
+use writing::lay::Wrote;
 use unit::State;
 use unit::Unit;
-use unit::unit_line;
 ghost use mathlib.Core.Path.{_≡_};
 ghost use Rattle.supply.specs.Rest.{firstWrote, firstInto};
 

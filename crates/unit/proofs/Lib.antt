@@ -1,9 +1,2 @@
-pub mod AlphabetLaws
-pub mod FrameLaws
-pub mod StepLaws
-pub mod StoreLaws
-pub mod UnitLaws
-pub mod PairLaws
-pub mod ReferenceLaws
+pub mod ValidLaws
 pub mod Unique
-pub mod Examples

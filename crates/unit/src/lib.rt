@@ -1,10 +1,6 @@
 // The unit, the state carried between records, and their limits.
-pub mod alphabet;
 pub mod kind;
 pub mod listed;
-pub mod pair_line;
-pub mod reference_line;
-pub mod unit_line;
 
 ghost use mathlib.Core.Path.{_≡_};
 ghost use Rattle.unit.specs.Unit.{unitRefusal, leastSegments};

@@ -4,7 +4,7 @@ use mathlib.Core.Path.{refl, sym}
 use mathlib.Core.List.{[], _∷_}
 use native.Mathlib.Omega.{arith}
 use Rattle.frame.specs.Hex.{unhex}
-use Rattle.frame.proofs.LayLaws.{laid-as, laid-none, Rest, rest-start, rest-put, rest-room, rest-done}
+use Rattle.writing.proofs.LayLaws.{laid-as, laid-none, Rest, rest-start, rest-put, rest-room, rest-done}
 use Rattle.bases.specs.Bases.{lettersAt}
 use Rattle.bases.proofs.ReferenceLaws.{laid-letter, letters-on, letters-end, length-letters}
 use borrow.Author.Needs.{needs}

@@ -2,7 +2,7 @@
 use mathlib.Core.Path.{_∙_}
 use native.Mathlib.Omega.{arith}
 use Rattle.frame.specs.Hex.{unhex}
-use Rattle.frame.proofs.LayLaws.{Rest, rest-put, rest-room-end, rest-end}
+use Rattle.writing.proofs.LayLaws.{Rest, rest-put, rest-room-end, rest-end}
 use Rattle.block.specs.Edits.{editsAt}
 use Rattle.bases.specs.Bases.{basesFrom, mappedBases}
 use Rattle.bases.proofs.ReferenceLaws.{length-matched}

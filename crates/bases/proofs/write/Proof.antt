@@ -1,6 +1,6 @@
 -- `bases::write` meets its contract: left soft clip, mapped bases, right soft clip, `text-pieces`. Assumes nothing.
 use native.Mathlib.Omega.{arith}
-use Rattle.frame.proofs.LayLaws.{laid-as, laid-then}
+use Rattle.writing.proofs.LayLaws.{laid-as, laid-then}
 use Rattle.bases.proofs.ReferenceLaws.{least-below}
 use Rattle.bases.proofs.BasesLaws.{text-pieces, room-left, room-mapped, room-right}
 use borrow.Author.Needs.{needs}

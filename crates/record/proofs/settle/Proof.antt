@@ -8,7 +8,7 @@ use borrow.Kind.Array.{good-length, eInt}
 use mir.Syntax.{w32}
 use lib.ListN.{length, length-map, length-set}
 use Rattle.frame.specs.Hex.{unhex}
-use Rattle.frame.proofs.LayLaws.{length-laid}
+use Rattle.writing.proofs.LayLaws.{length-laid}
 use Rattle.unit.specs.Listed.{leastListed}
 use Rattle.unit.specs.State.{subsequences}
 use Rattle.unit.specs.declared.State.{State}

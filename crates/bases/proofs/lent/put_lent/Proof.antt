@@ -3,7 +3,7 @@ use Prim.Native.Nat.{_-_, _≤_}
 use mathlib.Core.Path.{refl}
 use mathlib.Core.List.{[], _∷_}
 use native.Mathlib.Omega.{arith}
-use Rattle.frame.proofs.LayLaws.{Rest, rest-start, rest-put, rest-room, rest-done}
+use Rattle.writing.proofs.LayLaws.{Rest, rest-start, rest-put, rest-room, rest-done}
 use Rattle.bases.specs.Bases.{lettersAt}
 use Rattle.bases.proofs.ReferenceLaws.{laid-letter, letters-on, letters-end, length-letters}
 use borrow.Author.Needs.{needs}

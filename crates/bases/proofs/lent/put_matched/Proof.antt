@@ -1,6 +1,6 @@
 -- `bases::lent::put_matched` meets its contract: padding, lent bases, padding, `laid-matched`. Assumes nothing.
 use mathlib.Core.Path.{sym}
-use Rattle.frame.proofs.LayLaws.{laid-as, laid-none}
+use Rattle.writing.proofs.LayLaws.{laid-as, laid-none}
 use Rattle.bases.proofs.ReferenceLaws.{split, matched-none, room-lent, room-behind, laid-matched}
 use native.Mathlib.Omega.{arith}
 use borrow.Author.Needs.{needs}

@@ -2,8 +2,8 @@
 use mathlib.Core.Path.{_≡_, _∙_}
 use mathlib.Core.List.{[], _∷_}
 use lib.ListN.{replicate, length-replicate}
-use Rattle.unit.specs.Table35.{letterN}
-use Rattle.frame.proofs.LayLaws.{Rest, rest-start, rest-put, rest-room, rest-done}
+use Rattle.alphabet.specs.Table35.{letterN}
+use Rattle.writing.proofs.LayLaws.{Rest, rest-start, rest-put, rest-room, rest-done}
 use Rattle.bases.proofs.ReferenceLaws.{padding-on, padding-end, letter-n}
 use borrow.Author.Needs.{needs}
 use Rattle.bases.proofs.lent.put_padding.Statement.{statement}

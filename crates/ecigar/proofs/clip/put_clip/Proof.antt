@@ -3,7 +3,7 @@ use borrow.Author.Needs.{needs}
 use native.Mathlib.Omega.{arith}
 use mathlib.Core.Path.{sym}
 use Rattle.ecigar.proofs.WalkLaws.{clip-soft, clip-hard, clip-none}
-use Rattle.frame.proofs.LayLaws.{laid-none, laid-then, laid-as, length-laid}
+use Rattle.writing.proofs.LayLaws.{laid-none, laid-then, laid-as, length-laid}
 use Rattle.ecigar.proofs.clip.put_clip.Statement.{statement}
 use Rattle.ecigar.proofs.clip.put_clip.Tie as tie
 

@@ -2,7 +2,7 @@
 use borrow.Author.Needs.{needs}
 use mathlib.Core.Path.{sym}
 use Rattle.ecigar.proofs.WalkLaws.{closed-insertion, closed-deletion, closed-none}
-use Rattle.frame.proofs.LayLaws.{laid-none, laid-as}
+use Rattle.writing.proofs.LayLaws.{laid-none, laid-as}
 use Rattle.ecigar.proofs.text.put_closed.Statement.{statement}
 use Rattle.ecigar.proofs.text.put_closed.Tie as tie
 

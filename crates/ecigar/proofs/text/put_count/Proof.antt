@@ -2,7 +2,7 @@
 use borrow.Author.Needs.{needs}
 use native.Mathlib.Omega.{arith}
 use Rattle.ecigar.proofs.PrintLaws.{length-counted}
-use Rattle.frame.proofs.LayLaws.{laid-then, length-laid}
+use Rattle.writing.proofs.LayLaws.{laid-then, length-laid}
 use Rattle.ecigar.proofs.text.put_count.Statement.{statement}
 use Rattle.ecigar.proofs.text.put_count.Tie as tie
 

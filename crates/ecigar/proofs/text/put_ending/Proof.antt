@@ -4,7 +4,7 @@ use native.Mathlib.Omega.{arith}
 use mathlib.Core.Path.{sym}
 use lib.ListN.{length-append}
 use Rattle.ecigar.proofs.WalkLaws.{ending-both}
-use Rattle.frame.proofs.LayLaws.{laid-then, laid-as, length-laid}
+use Rattle.writing.proofs.LayLaws.{laid-then, laid-as, length-laid}
 use Rattle.ecigar.proofs.text.put_ending.Statement.{statement}
 use Rattle.ecigar.proofs.text.put_ending.Tie as tie
 

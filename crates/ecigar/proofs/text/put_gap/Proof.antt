@@ -4,7 +4,7 @@ use native.Mathlib.Omega.{arith}
 use mathlib.Core.Path.{sym, _∙_}
 use lib.ListN.{length-append}
 use Rattle.ecigar.proofs.WalkLaws.{gap-joined, gap-apart}
-use Rattle.frame.proofs.LayLaws.{laid-none, laid-then, laid-as, length-laid}
+use Rattle.writing.proofs.LayLaws.{laid-none, laid-then, laid-as, length-laid}
 use Rattle.ecigar.proofs.text.put_gap.Statement.{statement}
 use Rattle.ecigar.proofs.text.put_gap.Tie as tie
 

@@ -3,7 +3,7 @@ use borrow.Author.Needs.{needs}
 use native.Mathlib.Omega.{arith}
 use mathlib.Core.Path.{sym}
 use Rattle.ecigar.proofs.WalkLaws.{mark-letter, mark-none}
-use Rattle.frame.proofs.LayLaws.{laid-none, laid-as}
+use Rattle.writing.proofs.LayLaws.{laid-none, laid-as}
 use Rattle.ecigar.proofs.text.put_mark.Statement.{statement}
 use Rattle.ecigar.proofs.text.put_mark.Tie as tie
 

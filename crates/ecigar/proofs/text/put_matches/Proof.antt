@@ -2,7 +2,7 @@
 use borrow.Author.Needs.{needs}
 use mathlib.Core.Path.{sym}
 use Rattle.ecigar.proofs.WalkLaws.{matches-none, matches-some}
-use Rattle.frame.proofs.LayLaws.{laid-none, laid-as}
+use Rattle.writing.proofs.LayLaws.{laid-none, laid-as}
 use Rattle.ecigar.proofs.text.put_matches.Statement.{statement}
 use Rattle.ecigar.proofs.text.put_matches.Tie as tie
 

@@ -3,7 +3,7 @@ use borrow.Author.Needs.{needs}
 use native.Mathlib.Omega.{arith}
 use mathlib.Core.Path.{sym}
 use Rattle.ecigar.proofs.TextLaws.{text-parts, length-text}
-use Rattle.frame.proofs.LayLaws.{laid-then, laid-as, length-laid}
+use Rattle.writing.proofs.LayLaws.{laid-then, laid-as, length-laid}
 use Rattle.frame.specs.Hex.{unhex}
 use Rattle.ecigar.proofs.text.write.Statement.{statement}
 use Rattle.ecigar.proofs.text.write.Tie as tie

@@ -2,7 +2,7 @@
 use mathlib.Core.Path.{_≡_, ap, _∙_}
 use mathlib.Core.List.{[], _∷_}
 use denote.Ref.{now}
-use Rattle.frame.specs.Whole.{wroteOf, lineInto}
+use Rattle.writing.specs.Whole.{wroteOf, lineInto}
 use Rattle.listing.specs.Listing.{frame05}
 use Rattle.listing.proofs.ListingLaws.{made-05}
 use borrow.Author.Needs.{needs}

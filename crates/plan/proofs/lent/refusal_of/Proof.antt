@@ -1,7 +1,7 @@
 -- `plan::lent::refusal_of` meets its contract, test by test. Assumes nothing.
 use mathlib.Core.Path.{sym, _∙_}
 use borrow.Author.Needs.{needs}
-use Rattle.unit.proofs.StepLaws.{steps}
+use Rattle.frame.proofs.StepLaws.{steps}
 use Rattle.plan.specs.Lent.{lentRefusal}
 use Rattle.plan.proofs.lent.refusal_of.Statement.{statement}
 use Rattle.plan.proofs.lent.refusal_of.Tie as tie

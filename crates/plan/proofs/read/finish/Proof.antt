@@ -1,5 +1,5 @@
 -- `plan::read::finish` meets its contract: bytes are left over or not. Assumes nothing.
-use Rattle.unit.proofs.StepLaws.{steps}
+use Rattle.frame.proofs.StepLaws.{steps}
 use Rattle.plan.specs.Plan.{finished}
 use Rattle.plan.proofs.read.finish.Statement.{statement}
 use Rattle.plan.proofs.read.finish.Tie as tie

@@ -1,5 +1,5 @@
 -- `plan::read::first_part` meets its contract: the class picks the case. Assumes nothing.
-use Rattle.unit.proofs.StepLaws.{steps}
+use Rattle.frame.proofs.StepLaws.{steps}
 use Rattle.plan.specs.Plan.{firstPart}
 use borrow.Author.Needs.{needs}
 use Rattle.plan.proofs.read.first_part.Statement.{statement}

@@ -1,6 +1,6 @@
 -- `plan::read::from_kind` meets its contract: the field, the kind, then the pair answer. Assumes nothing.
 use Rattle.reader.proofs.HeadLaws.{head-kind, head-pos}
-use Rattle.unit.proofs.StepLaws.{steps}
+use Rattle.frame.proofs.StepLaws.{steps}
 use Rattle.plan.proofs.Steps.{linked, unlinked}
 use Rattle.plan.specs.Plan.{fromKind}
 use borrow.Author.Needs.{needs}

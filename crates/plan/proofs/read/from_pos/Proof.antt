@@ -1,5 +1,5 @@
 -- `plan::read::from_pos` meets its contract: the field, then the class. Assumes nothing.
-use Rattle.unit.proofs.StepLaws.{steps}
+use Rattle.frame.proofs.StepLaws.{steps}
 use Rattle.plan.specs.Plan.{fromPos}
 use borrow.Author.Needs.{needs}
 use Rattle.plan.proofs.read.from_pos.Statement.{statement}

@@ -1,5 +1,5 @@
 -- `plan::read::from_second` meets its contract: what the segment was read as picks the case. Assumes nothing.
-use Rattle.unit.proofs.StepLaws.{steps}
+use Rattle.frame.proofs.StepLaws.{steps}
 use Rattle.plan.proofs.Steps.{second-read, second-refused}
 use Rattle.plan.specs.Plan.{fromSecond}
 use borrow.Author.Needs.{needs}

@@ -1,5 +1,5 @@
 -- `plan::read::read` meets its contract: what the line is picks the case. Assumes nothing.
-use Rattle.unit.proofs.StepLaws.{steps}
+use Rattle.frame.proofs.StepLaws.{steps}
 use Rattle.plan.specs.Plan.{planOf}
 use borrow.Author.Needs.{needs}
 use Rattle.plan.proofs.read.read.Statement.{statement}

@@ -1,5 +1,5 @@
 -- `plan::read::second_part` meets its contract: the class picks the case. Assumes nothing.
-use Rattle.unit.proofs.StepLaws.{steps}
+use Rattle.frame.proofs.StepLaws.{steps}
 use Rattle.plan.specs.Plan.{secondPart}
 use borrow.Author.Needs.{needs}
 use Rattle.plan.proofs.read.second_part.Statement.{statement}

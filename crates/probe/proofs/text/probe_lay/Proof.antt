@@ -3,7 +3,7 @@ use Prim.Native.Nat.{_≤_, _-_}
 use native.Mathlib.Omega.{arith}
 use Rattle.frame.specs.Hex.{be}
 use Rattle.frame.proofs.HexLaws.{length-be}
-use Rattle.frame.proofs.LayLaws.{Rest, rest-start, rest-put, rest-room, rest-done}
+use Rattle.writing.proofs.LayLaws.{Rest, rest-start, rest-put, rest-room, rest-done}
 use Rattle.probe.specs.Text.{countdown, countInto}
 use Rattle.probe.proofs.TextLaws.{countdown-on, countdown-none, length-countdown}
 use borrow.Author.Tests.{le-ltb, lt-ltb}

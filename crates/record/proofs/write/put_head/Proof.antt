@@ -2,7 +2,7 @@
 use native.Mathlib.Omega.{arith}
 use lib.ListN.{length-append}
 use Rattle.frame.proofs.HexLaws.{length-be}
-use Rattle.frame.proofs.LayLaws.{laid-then, laid-be}
+use Rattle.writing.proofs.LayLaws.{laid-then, laid-be}
 use Rattle.unit.specs.Listed.{headOf}
 use borrow.Author.Needs.{needs}
 use Rattle.record.proofs.write.put_head.Statement.{statement}

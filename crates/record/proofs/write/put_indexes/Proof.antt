@@ -5,7 +5,7 @@ use native.Mathlib.Omega.{arith}
 use borrow.Kind.Array.{good-length, eInt}
 use mir.Syntax.{w32}
 use lib.ListN.{length, drop}
-use Rattle.frame.proofs.LayLaws.{Rest, rest-start, rest-put, rest-done}
+use Rattle.writing.proofs.LayLaws.{Rest, rest-start, rest-put, rest-done}
 use Rattle.unit.specs.Listed.{words}
 use Rattle.unit.specs.State.{subsequences}
 use Rattle.record.proofs.WriteLaws.{words-on, words-end, words-room}

@@ -3,7 +3,7 @@ use Prim.Native.Nat.{_+_, _≤_}
 use native.Mathlib.Omega.{arith}
 use denote.Ref.{now}
 use lib.ListN.{length}
-use Rattle.frame.proofs.LayLaws.{laid-then, laid-be}
+use Rattle.writing.proofs.LayLaws.{laid-then, laid-be}
 use Rattle.record.specs.Record.{linkBytes}
 use Rattle.record.proofs.BytesLaws.{length-link}
 use Rattle.record.proofs.WriteLaws.{be-low}

@@ -6,7 +6,7 @@ use native.Mathlib.Omega.{arith}
 use denote.Ref.{now}
 use lib.ListN.{length, length-append}
 use Rattle.frame.specs.Hex.{unhex}
-use Rattle.frame.proofs.LayLaws.{laid-then, laid-rest, length-laid, room-next}
+use Rattle.writing.proofs.LayLaws.{laid-then, laid-rest, length-laid, room-next}
 use Rattle.unit.specs.Listed.{headOf}
 use Rattle.segment.specs.Part.{partBytes}
 use Rattle.segment.specs.declared.part.Part.{Part}

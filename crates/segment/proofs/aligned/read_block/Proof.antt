@@ -1,6 +1,6 @@
 -- `segment::aligned::read_block` meets its contract: each step of the definition follows from what was read. Assumes nothing.
 use mathlib.Core.Path.{refl}
-use Rattle.unit.proofs.StepLaws.{when, unless, same, differ}
+use Rattle.frame.proofs.StepLaws.{when, unless, same, differ}
 use Rattle.segment.proofs.Steps.{accepted, rejected, clipped, unclipped}
 use Rattle.segment.specs.Aligned.{alignedAt}
 use borrow.Author.Needs.{needs}

@@ -1,6 +1,6 @@
 -- `segment::checked::read_length` meets its contract: each step of the definition follows from what was read. Assumes nothing.
 use mathlib.Core.Path.{refl}
-use Rattle.unit.proofs.StepLaws.{when, unless, same, differ, value, ended}
+use Rattle.frame.proofs.StepLaws.{when, unless, same, differ, value, ended}
 use Rattle.segment.specs.Checked.{lengthAt}
 use borrow.Author.Tests.{le-ltb, lt-ltb}
 use borrow.Author.Needs.{needs}

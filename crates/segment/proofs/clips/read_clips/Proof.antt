@@ -2,7 +2,7 @@
 use mathlib.Core.Path.{refl}
 use native.Mathlib.Omega.{arith}
 use Rattle.frame.proofs.FieldLaws.{value-fits}
-use Rattle.unit.proofs.StepLaws.{value, ended}
+use Rattle.frame.proofs.StepLaws.{value, ended}
 use Rattle.segment.specs.Clips.{clipsAt}
 use borrow.Author.Needs.{needs}
 use Rattle.segment.proofs.clips.read_clips.Statement.{statement}

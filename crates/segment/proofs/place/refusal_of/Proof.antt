@@ -1,6 +1,6 @@
 -- `segment::place::refusal_of` meets its contract: the tests on the way pick the case. Assumes nothing.
 use mathlib.Core.Path.{refl}
-use Rattle.unit.proofs.StepLaws.{when, unless}
+use Rattle.frame.proofs.StepLaws.{when, unless}
 use Rattle.segment.specs.Place.{placeRefusal}
 use borrow.Author.Tests.{le-ltb, lt-ltb}
 use borrow.Author.Needs.{needs}

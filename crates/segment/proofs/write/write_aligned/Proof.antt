@@ -4,7 +4,7 @@ use mathlib.Core.Path.{sym}
 use native.Mathlib.Omega.{arith}
 use lib.ListN.{length-append}
 use Rattle.frame.proofs.HexLaws.{length-be}
-use Rattle.frame.proofs.LayLaws.{laid-then, laid-be, length-laid}
+use Rattle.writing.proofs.LayLaws.{laid-then, laid-be, length-laid}
 use Rattle.segment.specs.Part.{alignedBytes}
 use Rattle.segment.proofs.write.write_aligned.Statement.{statement}
 use Rattle.segment.proofs.write.write_aligned.Tie as tie

@@ -5,7 +5,7 @@ use native.Mathlib.Omega.{arith}
 use denote.Ref.{now}
 use lib.ListN.{length, length-append}
 use Rattle.frame.proofs.HexLaws.{length-unhex, length-be}
-use Rattle.frame.proofs.LayLaws.{laid-then, laid-be, length-laid}
+use Rattle.writing.proofs.LayLaws.{laid-then, laid-be, length-laid}
 use Rattle.segment.proofs.WriteLaws.{so-many, length-letters}
 use Rattle.segment.specs.Part.{unalignedBytes}
 use borrow.Author.Needs.{needs}

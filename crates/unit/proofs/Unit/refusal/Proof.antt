@@ -1,6 +1,6 @@
 -- `unit::Unit::refusal` meets its contract: the tests on the way pick the case. Assumes nothing.
 use Rattle.unit.specs.Unit.{unitRefusal}
-use Rattle.unit.proofs.StepLaws.{steps}
+use Rattle.frame.proofs.StepLaws.{steps}
 use borrow.Author.Needs.{needs}
 use Rattle.unit.proofs.Unit.refusal.Statement.{statement}
 use Rattle.unit.proofs.Unit.refusal.Tie as tie

@@ -1,0 +1,23 @@
+-- Each public function's promise admits one outcome: two outcomes that keep it are the same.
+-- Assumes nothing.
+use mathlib.Core.Path.{_≡_}
+use mathlib.Core.List.{List}
+use Prim.Native.Nat.{ℕ}
+use Rattle.frame.proofs.Unique.{once}
+use Rattle.alphabet.specs.Table35.{sizeOf, letterOf, digitsOf, codeOfN, codeOf}
+use Rattle.alphabet.specs.declared.Code.{Code}
+
+pub size-once : (alphabet : ℕ) {r r′ : ℕ} → r ≡ sizeOf alphabet → r′ ≡ sizeOf alphabet → r ≡ r′
+size-once alphabet = once
+
+pub letter-once : (alphabet index : ℕ) {r r′ : ℕ} → r ≡ letterOf alphabet index → r′ ≡ letterOf alphabet index → r ≡ r′
+letter-once alphabet index = once
+
+pub digits-once : (alphabet : ℕ) {r r′ : List ℕ} → r ≡ digitsOf alphabet → r′ ≡ digitsOf alphabet → r ≡ r′
+digits-once alphabet = once
+
+pub index-of-n-once : (alphabet : ℕ) {r r′ : ℕ} → r ≡ codeOfN alphabet → r′ ≡ codeOfN alphabet → r ≡ r′
+index-of-n-once alphabet = once
+
+pub index-of-once : (alphabet symbol : ℕ) {r r′ : Code} → r ≡ codeOf alphabet symbol → r′ ≡ codeOf alphabet symbol → r ≡ r′
+index-of-once alphabet symbol = once

@@ -1,0 +1,97 @@
+// The two alphabets of Table 35: an index of a symbol, its letter, and back.
+ghost use mathlib.Core.Path.{_≡_};
+ghost use Rattle.alphabet.specs.Table35.{sizeOf, letterOf, digitsOf, codeOfN, codeOf};
+
+// What Code[symbol] of the standard is.
+pub enum Code {
+    At(u32),
+    NoSymbol,
+}
+
+// Alphabet 0: A C G T N.
+const FIVE: [u8; 5] = [65, 67, 71, 84, 78];
+
+// Alphabet 1: A C G T R Y S W K M B D H V N -.
+const SIXTEEN: [u8; 16] = [
+    65,
+    67,
+    71,
+    84,
+    82,
+    89,
+    83,
+    87,
+    75,
+    77,
+    66,
+    68,
+    72,
+    86,
+    78,
+    45,
+];
+
+// The digits of a table: two a letter, from index 0 to index 16, which is outside both alphabets.
+pub const DIGITS: usize = 34;
+
+// The same letters as digits; 00 for an index outside the alphabet.
+const FIVE_DIGITS: [u8; DIGITS] = *b"414347544e000000000000000000000000";
+
+const SIXTEEN_DIGITS: [u8; DIGITS] = *b"41434754525953574b4d424448564e2d00";
+
+// How many symbols an alphabet has: an index is below this.
+pub fn size(alphabet: u32) -> u32
+    ensures { λ r. ⌜ r ≡ sizeOf alphabet ⌝ }
+{
+    if alphabet == 0 { 5 } else { 16 }
+}
+
+// The letter of an index; 0 for an index outside the alphabet.
+pub fn letter(alphabet: u32, index: u32) -> u8
+    ensures { λ r. ⌜ r ≡ letterOf alphabet index ⌝ }
+{
+    let at = index as usize;
+    if alphabet == 0 {
+        if at < 5 {
+            return FIVE[at];
+        }
+        return 0;
+    }
+    if at < 16 {
+        return SIXTEEN[at];
+    }
+    0
+}
+
+// The digits of each letter, for a writer of many: it takes them once, and a letter is then two places of the table.
+pub fn digits(alphabet: u32) -> [u8; DIGITS]
+    ensures { λ r. ⌜ r ≡ digitsOf alphabet ⌝ }
+{
+    if alphabet == 0 {
+        FIVE_DIGITS
+    } else {
+        SIXTEEN_DIGITS
+    }
+}
+
+// The index of the letter N.
+pub fn index_of_n(alphabet: u32) -> u32
+    ensures { λ r. ⌜ r ≡ codeOfN alphabet ⌝ }
+{
+    if alphabet == 0 { 4 } else { 14 }
+}
+
+// The index of a letter.
+pub fn index_of(alphabet: u32, symbol: u8) -> Code
+    ensures { λ r. ⌜ r ≡ codeOf alphabet symbol ⌝ }
+{
+    let n = size(alphabet);
+    let mut i = 0;
+    while i < n {
+        if letter(alphabet, i) == symbol {
+            return Code::At(i);
+        }
+        i += 1;
+    }
+    Code::NoSymbol
+}

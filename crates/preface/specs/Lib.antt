@@ -1,0 +1,3 @@
+pub mod UnitLine
+pub mod PairLine
+pub mod ReferenceLine

@@ -1,0 +1,75 @@
+-- A pair line (document 01, Lines: 02 pair): kind, subsequence number, count u16, then that many u32; each field is checked when it is complete, left-over bytes last.
+-- Assumes nothing.
+use mathlib.Core.Bool.{cond}
+use mathlib.Core.List.{List, [], _∷_}
+use Prim.Native.Nat.{ℕ, zero, suc, _+_, _*_}
+use lib.Dec.{eqb, ltb}
+use lib.ListN.{length}
+use Rattle.refusal.specs.Numbers.{fine, malformed, misframed, countOut}
+use Rattle.frame.specs.Hex.{unhex}
+use Rattle.frame.specs.Line.{lineOf}
+use Rattle.frame.specs.Field.{bigAt, fieldAt, afterField}
+use Rattle.frame.specs.declared.field.Cursor.{Cursor}
+use Rattle.unit.specs.Kinds.{kindPair}
+use Rattle.unit.specs.State.{subsequences, mostSymbols, symbolPlace, tableLength}
+use Rattle.frame.specs.Steps.{afterLine, storedAt}
+use Rattle.preface.specs.declared.pair_line.PairLine.{PairLine}
+use Rattle.preface.specs.declared.pair_line.PairLine.the-variants.{Count, Refused}
+
+-- the bytes of a symbol
+abbrev pub symbolBytes : ℕ
+symbolBytes = 4
+
+-- the bytes before the symbols: kind, subsequence number and count
+abbrev pub pairHead : ℕ
+pairHead = 4
+
+-- a frame that ends before a field is complete, another kind or subsequence number, or bytes left over
+abbrev pub pairMisframed : PairLine
+pairMisframed = Refused misframed
+
+-- the count is within the limit (4), and so many symbols follow it, and nothing behind them
+unfoldable pub pairSymbols : List ℕ → ℕ → Cursor → PairLine
+pairSymbols s count c =
+    cond (ltb mostSymbols count) (Refused countOut)
+    (cond (ltb (length s) (c .at + symbolBytes * count)) pairMisframed
+    (cond (ltb (c .at + symbolBytes * count) (length s)) pairMisframed
+    (Count count)))
+
+-- hexadecimal, kind 02, the subsequence's own number, then the count
+unfoldable pub pairCount : List ℕ → ℕ → PairLine
+pairCount line number =
+    afterLine (Refused malformed) (lineOf line)
+    (afterField pairMisframed (fieldAt 1 (unhex line) 0) (λ kind c.
+    cond (eqb kind kindPair)
+    (afterField pairMisframed (fieldAt 1 (unhex line) (c .at)) (λ sub d.
+    cond (eqb sub number)
+    (afterField pairMisframed (fieldAt 2 (unhex line) (d .at)) (λ count e. pairSymbols (unhex line) count e))
+    pairMisframed))
+    pairMisframed))
+
+-- the line of subsequence `number`, for a table of so many places: a table of another shape is refused by 4, a number that is no subsequence by 2, before the line is looked at
+unfoldable pub pairLine : List ℕ → ℕ → ℕ → PairLine
+pairLine line number places =
+    cond (eqb places tableLength)
+    (cond (ltb number subsequences) (pairCount line number) pairMisframed)
+    (Refused countOut)
+
+-- n symbols, from byte `at` of a frame on
+unfoldable pub symbolsAt : ℕ → List ℕ → ℕ → List ℕ
+symbolsAt zero s at = []
+symbolsAt (suc n) s at = bigAt symbolBytes s at ∷ symbolsAt n s (at + symbolBytes)
+
+-- the table after an answer: the symbols stand at the front of their subsequence's row, and nothing else differs
+unfoldable pub tableBy : PairLine → List ℕ → ℕ → List ℕ → List ℕ
+tableBy (Count n) line number t = storedAt t (symbolPlace number 0) (symbolsAt n (unhex line) pairHead)
+tableBy (Refused n) line number t = t
+
+-- the table after the line of subsequence `number`
+unfoldable pub tableAfter : List ℕ → ℕ → List ℕ → List ℕ
+tableAfter line number t = tableBy (pairLine line number (length t)) line number t
+
+-- document 01's number of an answer
+abbrev pub pairNumber : PairLine → ℕ
+pairNumber (Count n) = fine
+pairNumber (Refused n) = n

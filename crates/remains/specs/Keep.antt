@@ -1,0 +1,72 @@
+-- What is known of a found file after each of its bytes (document 01, Resuming): `Keep`, read in pieces of any size.
+-- Assumes nothing.
+use Prim.Native.Nat.{ℕ, suc, _+_, _-_, _≤_}
+use mathlib.Core.Path.{_≡_}
+use mathlib.Core.Bool.{true, false, cond}
+use mathlib.Core.List.{List, [], _∷_}
+use lib.Dec.{eqb, leb}
+use lib.ListN.{length, take, drop}
+use Rattle.frame.specs.Line.{lineEnd}
+use Rattle.listing.specs.Resuming.{Edges, edgesFrom}
+use Rattle.remains.specs.declared.keep.Keep.{Keep}
+
+-- the most bytes that are counted; a longer file is read no further
+abbrev pub mostBytes : ℕ
+mostBytes = 18446744073709551615
+
+-- nothing is read
+abbrev pub fresh : Keep
+fresh = record { first = 0; last = 0; kept = 0; seen = 0; done = false }
+
+-- nothing that follows is kept
+abbrev pub stopped : Keep → Keep
+stopped k = record { first = k .first; last = k .last; kept = k .kept; seen = k .seen; done = true }
+
+-- an 0A: the line that it ends is kept
+abbrev pub lineKept : Keep → Keep
+lineKept k =
+    record {
+      first = cond (eqb (k .first) 0) (k .seen + 1) (k .first);
+      last = k .kept;
+      kept = k .seen + 1;
+      seen = k .seen + 1;
+      done = false;
+    }
+
+-- n bytes that neither end a line nor the file
+abbrev pub passedBy : Keep → ℕ → Keep
+passedBy k n = record { first = k .first; last = k .last; kept = k .kept; seen = k .seen + n; done = false }
+
+-- one byte more
+unfoldable pub keepByte : Keep → ℕ → Keep
+keepByte k b =
+    cond (k .done) k
+    (cond (eqb b 0) (stopped k)
+    (cond (leb mostBytes (k .seen)) (stopped k)
+    (cond (eqb b lineEnd) (lineKept k) (passedBy k 1))))
+
+-- the bytes of a piece, one after the other
+unfoldable pub keepAll : Keep → List ℕ → Keep
+keepAll k [] = k
+keepAll k (b ∷ bs) = keepAll (keepByte k b) bs
+
+-- the first and the last kept line of the file, by the places that are known
+abbrev pub edgesAt : Keep → List ℕ → Edges
+edgesAt k f = edgesFrom (take (k .first) f) (take (k .kept - k .last) (drop (k .last) f))
+
+-- how many bytes at the front of a piece are above 0A, as every digit is
+unfoldable pub runLength : List ℕ → ℕ
+runLength [] = 0
+runLength (b ∷ bs) = cond (leb b lineEnd) 0 (suc (runLength bs))
+
+-- where the run that starts at place `start` of a piece ends
+pub record RunEnd (piece : List ℕ) (start end : ℕ) : Type 0 where
+  pub at : end ≡ start + runLength (drop start piece)
+  pub inside : end ≤ length piece
+
+-- a run of n such bytes
+unfoldable pub keepRun : Keep → ℕ → Keep
+keepRun k n =
+    cond (k .done) k
+    (cond (leb n (mostBytes - k .seen)) (passedBy k n)
+    (stopped (passedBy k (mostBytes - k .seen))))

@@ -1,0 +1,41 @@
+-- `Last` and `Place` of Resuming as the code's values.
+-- Assumes nothing.
+use Prim.Native.Nat.{ℕ}
+use Rattle.unit.specs.State.{freshState}
+use Rattle.listing.specs.Resuming.{Last, goOn, whole, bad, Place, afresh, second, on, over, no}
+use Rattle.resuming.specs.declared.last.Said.{Said}
+use Rattle.resuming.specs.declared.last.Listed.{Listed}
+use Rattle.resuming.specs.declared.last.Listed.the-variants.{GoOn, Whole, Bad}
+use Rattle.resuming.specs.declared.place.Go.{Go}
+use Rattle.resuming.specs.declared.place.Go.the-variants.{Afresh, Second, On, Over, Refused}
+use Rattle.resuming.specs.declared.place.Placed.{Placed}
+
+-- an answer without a state has the fresh one
+abbrev pub bareSaid : Listed → Said
+bareSaid says = record { says = says; state = freshState }
+
+-- what the last kept line says
+unfoldable pub saidOf : Last → Said
+saidOf (goOn s) = record { says = GoOn; state = s }
+saidOf whole = bareSaid Whole
+saidOf bad = bareSaid Bad
+
+-- an answer without a state has the fresh one
+abbrev pub barePlaced : Go → Placed
+barePlaced go = record { go = go; state = freshState }
+
+-- where to go on
+unfoldable pub placedOf : Place → Placed
+placedOf afresh = barePlaced Afresh
+placedOf second = barePlaced Second
+placedOf (on s) = record { go = On; state = s }
+placedOf over = barePlaced Over
+placedOf (no n) = barePlaced (Refused n)
+
+-- the refusal number that an answer stands for; 0 where none is refused
+unfoldable pub numberOf : Go → ℕ
+numberOf Afresh = 0
+numberOf Second = 0
+numberOf On = 0
+numberOf Over = 0
+numberOf (Refused n) = n

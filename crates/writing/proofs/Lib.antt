@@ -1,0 +1,4 @@
+pub mod LayLaws
+pub mod WholeLaws
+pub mod DecimalLaws
+pub mod Unique

@@ -1,0 +1,3 @@
+pub mod Lay
+pub mod Whole
+pub mod Decimal
