@@ -5,7 +5,7 @@ use crate::refusal::Refusal;
 /// S0 and S1, each in the order of its indexes.
 const LETTERS: [&[u8]; 2] = [b"ACGTN", b"ACGTRYSWKMBDHVN-"];
 
-/// What an unknown or padded base is called in either alphabet (10.2.2, reading 16).
+/// What an unknown or padded base is called in either alphabet (10.2.2, decision 14).
 pub const UNKNOWN: u8 = b'N';
 
 #[derive(Clone, Copy, Debug, PartialEq, Eq)]

@@ -51,7 +51,7 @@ impl<'a> Frame<'a> {
         Ok(u32::from_be_bytes([bytes[0], bytes[1], bytes[2], bytes[3]]))
     }
 
-    /// The byte that begins every frame. An empty frame has none: 2 (reading 2).
+    /// The byte that begins every frame. An empty frame has none: 2 (decision 2).
     pub fn kind(&mut self, wanted: u8) -> Result<(), Refusal> {
         if self.u8()? != wanted {
             return Err(Refusal::Frame);
@@ -59,7 +59,7 @@ impl<'a> Frame<'a> {
         Ok(())
     }
 
-    /// Bytes left over are looked at last (document 01, Order; reading 1).
+    /// Bytes left over are looked at last (document 01, Order; decision 1).
     pub fn end(&self) -> Result<(), Refusal> {
         if self.left() > 0 {
             return Err(Refusal::Frame);

@@ -74,7 +74,7 @@ impl<'a> Lines<'a> {
     }
 
     /// The next line with its 0A. Where the file ends a line is missing (14). No 0A within the limit is
-    /// refused by 1 at once, whatever follows (reading 3).
+    /// refused by 1 at once, whatever follows (decision 3).
     pub fn take(&mut self) -> Result<&'a [u8], Refusal> {
         if self.at_end() {
             return Err(Refusal::Lines);
@@ -86,7 +86,7 @@ impl<'a> Lines<'a> {
         Ok(&rest[..digits + 1])
     }
 
-    /// Passes over one line by its 0A only (reading 20). False where no 0A is left.
+    /// Passes over one line by its 0A only (decision 45). False where no 0A is left.
     pub fn pass_over(&mut self) -> bool {
         match newline_in(&self.file[self.at..]) {
             Some(before) => {

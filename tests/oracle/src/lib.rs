@@ -1,4 +1,4 @@
-//! The second decoder: written from document 01, the readings and the standard's tables alone,
+//! The second decoder: written from document 01, the settled open points (docs/DECISIONS.md) and the standard's tables alone,
 //! so that the product can be compared with something that shares no line with it.
 //!
 //! It decodes into owned structures and prints those. Nothing is clever, nothing is lent.

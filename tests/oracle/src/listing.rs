@@ -90,7 +90,7 @@ fn list_record(
     Ok(record.after)
 }
 
-/// After the last record: no byte, and no symbol left over (reading 6: the two have the same answer).
+/// After the last record: no byte, and no symbol left over (decision 43: the two have the same answer).
 fn at_last(counts: &[u16; SUBSEQUENCES], state: &State, lines: &Lines) -> Result<(), Refusal> {
     if !lines.at_end() || state.indexes != *counts {
         return Err(Refusal::Lines);

@@ -36,7 +36,7 @@ pub enum Mate {
 }
 
 /// Reads a pair frame that has to carry this subsequence number: the number before the count, the count (4)
-/// before the symbols (reading 1).
+/// before the symbols (decision 1).
 pub fn read_pair_line(bytes: &[u8], subsequence: usize) -> Result<Vec<u32>, Refusal> {
     let mut frame = Frame::new(bytes);
     frame.kind(kind::PAIR)?;

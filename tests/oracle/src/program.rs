@@ -4,7 +4,7 @@ use std::io::Write;
 use std::process::ExitCode;
 
 /// Reads the files named by the arguments, as many as `names` has, and writes what `answer` makes of them.
-/// A file that cannot be read is no line of anybody's: standard output stays empty (reading 7).
+/// A file that cannot be read is no line of anybody's: standard output stays empty (decision 34).
 pub fn run(names: &[&str], answer: impl Fn(&[Vec<u8>]) -> Vec<u8>) -> ExitCode {
     let paths: Vec<_> = std::env::args_os().skip(1).collect();
     if paths.len() != names.len() {

@@ -49,7 +49,7 @@ pub fn record(
 }
 
 /// Eight counts in their limit and eight lists, each as long as its count; another shape has the same number
-/// and the same place in the Order (reading 12).
+/// and the same place in the Order (decision 10).
 fn lent_symbols<'a>(symbols: &'a [Vec<u32>], counts: &[u16]) -> Result<(&'a Symbols, [u16; SUBSEQUENCES]), Refusal> {
     let symbols: &Symbols = symbols.try_into().map_err(|_| Refusal::SymbolCount)?;
     let counts: [u16; SUBSEQUENCES] = counts.try_into().map_err(|_| Refusal::SymbolCount)?;
@@ -79,7 +79,7 @@ pub(crate) fn state_stands(unit: &Unit, counts: &[u16; SUBSEQUENCES], state: &St
 }
 
 /// Kind, pair symbols, pos, blocks, left-over bytes (document 01, Order). The pair symbols come before pos
-/// is read (reading 8).
+/// is read (decision 7).
 pub(crate) fn decode(
     unit: &Unit,
     reference: Reference,
@@ -102,7 +102,7 @@ pub(crate) fn decode(
     Ok(Record { number: state.number, link, mate_sequence_id, mate_position, segments, after })
 }
 
-/// Each block is finished, 13 and 10 included, before the next one is read (reading 10).
+/// Each block is finished, 13 and 10 included, before the next one is read (decision 9).
 fn segments(
     unit: &Unit,
     reference: Reference,
@@ -126,7 +126,7 @@ fn segments(
     Ok(segments)
 }
 
-/// The sum is never wrapped: past the last u32 it lies outside every unit (reading 9).
+/// The sum is never wrapped: past the last u32 it lies outside every unit (decision 8).
 fn position(link: &Link, pos: u32, number: u8) -> u64 {
     match link.mate {
         Mate::Behind { delta } if number == 1 => u64::from(pos) + u64::from(delta),

@@ -20,7 +20,7 @@ pub fn read_reference(file: &[u8]) -> Result<Vec<u8>, Refusal> {
 }
 
 /// The indexes of one reference frame, read after `before` others. Any byte value is taken here, as the
-/// alphabet is not known yet (reading 4).
+/// alphabet is not known yet (decision 4).
 pub fn read_reference_line(bytes: &[u8], before: usize) -> Result<&[u8], Refusal> {
     let mut frame = Frame::new(bytes);
     frame.kind(kind::REFERENCE)?;

@@ -42,7 +42,7 @@ fn continued(reference: &[u8], unit: &[u8], kept: &[u8]) -> Result<Vec<u8>, Refu
         return Err(Refusal::FirstLine);
     }
     let last_line = last_of(kept);
-    // Equality comes before the kind (reading 19): a refused first line is the whole listing.
+    // Equality comes before the kind (decision 44): a refused first line is the whole listing.
     if last_line == first_line {
         return Ok(opened.map_or(Vec::new(), |opened| rest_of(&opened)));
     }

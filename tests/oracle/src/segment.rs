@@ -61,7 +61,7 @@ enum Run {
 }
 
 /// Decodes the aligned block that begins at `offset` of a frame, for a segment at `position` (which may lie
-/// above every u32, reading 9). Gives the segment and where the next block begins.
+/// above every u32, decision 8). Gives the segment and where the next block begins.
 pub fn aligned_segment(
     unit: &Unit,
     reference: Reference,

@@ -76,7 +76,7 @@ impl Unit {
         })
     }
 
-    /// One past the last position; wider than u32, as AU end may be the last u32 (reading 11).
+    /// One past the last position; wider than u32, as AU end may be the last u32 (decision 47).
     pub fn au_past(&self) -> u64 {
         u64::from(self.au_end) + 1
     }
@@ -86,7 +86,7 @@ impl Unit {
     }
 }
 
-/// Reads a unit frame left to right, each field checked when complete (reading 1).
+/// Reads a unit frame left to right, each field checked when complete (decision 1).
 pub fn read_unit(bytes: &[u8]) -> Result<Unit, Refusal> {
     let mut frame = Frame::new(bytes);
     frame.kind(kind::UNIT)?;
@@ -125,7 +125,7 @@ fn au_end(au_start: u32, au_end: u32) -> Result<u32, Refusal> {
     Ok(au_end)
 }
 
-/// A count above the limit is a unit field outside its values (reading 5).
+/// A count above the limit is a unit field outside its values (decision 5).
 fn record_count(count: u16) -> Result<u16, Refusal> {
     if count > RECORDS_MAX {
         return Err(Refusal::UnitValue);

@@ -1,4 +1,4 @@
-//! Bases, E-CIGAR and positions: readings 14 to 18, Table 35, and the limits at their edges.
+//! Bases, E-CIGAR and positions: decisions 12 to 16, Table 35, and the limits at their edges.
 
 mod common;
 use common::*;
@@ -18,7 +18,7 @@ fn reading_14_two_pointers_and_not_table_42() {
     assert_eq!((segment.bases.as_str(), segment.ecigar.as_str()), ("ATGT", "1=1+1-2="));
 }
 
-// Reading 15 names an example of the standard that is no vector: there is nothing to run.
+// Decision 13 names an example of the standard that is no vector: there is nothing to run.
 
 #[test]
 fn reading_16_a_padded_base_is_n_in_either_alphabet() {

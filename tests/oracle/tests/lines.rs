@@ -1,4 +1,4 @@
-//! Lines and files: readings 1 to 7, and the limits of lines, unit fields and pair lines.
+//! Lines and files: decisions 1 to 5, 34 and 43, and the limits of lines, unit fields and pair lines.
 
 mod common;
 use common::*;
@@ -275,7 +275,7 @@ fn missing_records() {
     assert_eq!(listed(&listing).len(), 2);
 }
 
-/// Reading 7, of the programs: nothing on standard output, something on standard error.
+/// Decision 34, of the programs: nothing on standard output, something on standard error.
 #[test]
 fn reading_7_a_file_that_cannot_be_read() {
     for (program, files) in [(env!("CARGO_BIN_EXE_oracle-list"), 2), (env!("CARGO_BIN_EXE_oracle-resume"), 3)] {

@@ -1,4 +1,4 @@
-//! The record call: its Order, Table 60, readings 8 to 12.
+//! The record call: its Order, Table 60, decisions 7 to 10 and 47.
 
 mod common;
 use common::*;

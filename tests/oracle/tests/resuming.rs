@@ -1,4 +1,4 @@
-//! Resuming: document 01's section of that name, readings 19 to 21.
+//! Resuming: document 01's section of that name, decisions 44 to 46.
 
 mod common;
 use common::*;
@@ -295,7 +295,7 @@ fn reading_20_passed_over_by_their_newlines_only() {
     assert_eq!(oracle::resume(&unit.reference_file(), &cut, &all), [&all[..], b"0500030e\n"].concat());
 }
 
-/// Reading 21: nothing of what was found is printed before a refusal, however much it is.
+/// Decision 46: nothing of what was found is printed before a refusal, however much it is.
 #[test]
 fn reading_21_a_refused_resume_prints_its_line_alone() {
     let unit = paired();
