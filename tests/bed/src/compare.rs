@@ -55,13 +55,22 @@ impl Programs {
 /// Writes reference.hex, unit.hex and, for resuming, found.hex.
 pub fn write_files(files: &Files, folder: &Path) -> io::Result<Vec<PathBuf>> {
     let mut paths = vec![folder.join("reference.hex"), folder.join("unit.hex")];
-    fs::write(&paths[0], &files.reference)?;
-    fs::write(&paths[1], &files.unit)?;
+    write_anew(&paths[0], &files.reference)?;
+    write_anew(&paths[1], &files.unit)?;
     if let Some(found) = &files.found {
         paths.push(folder.join("found.hex"));
-        fs::write(&paths[2], found)?;
+        write_anew(&paths[2], found)?;
     }
     Ok(paths)
+}
+
+/// Writes a file in the place of the one before. That one is removed first: a file that is cut to nothing and written
+/// again is sent to the disk at once by some systems (ext4), and a run of thousands of cases then waits for the disk.
+pub fn write_anew(path: &Path, bytes: &[u8]) -> io::Result<()> {
+    match fs::remove_file(path) {
+        Err(error) if error.kind() != io::ErrorKind::NotFound => Err(error),
+        _ => fs::write(path, bytes),
+    }
 }
 
 /// Runs the cases from 0 to `count` on `workers` threads. Gives the number and the difference of a case that

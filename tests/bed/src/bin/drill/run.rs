@@ -1,6 +1,7 @@
 //! Running the two programs on files in a folder of this run.
 
 use bed::cases::valid_case;
+use bed::compare::write_anew;
 use bed::{listing_case, Files, Rng};
 use std::path::PathBuf;
 use std::process::{Command, Output, Stdio};
@@ -37,7 +38,7 @@ impl Programs {
 
     pub fn write(&self, name: &str, bytes: &[u8]) -> PathBuf {
         let path = self.folder.join(name);
-        std::fs::write(&path, bytes).expect("the folder for temporary files takes what is written");
+        write_anew(&path, bytes).expect("the folder for temporary files takes what is written");
         path
     }
 
