@@ -18,7 +18,7 @@ use Rattle.frame.specs.declared.line.Line.{Line}
 use Rattle.frame.specs.declared.line.Line.the-variants.{Frame, Malformed}
 use Rattle.frame.proofs.HexLaws.{by-test, false-true, byte-lt}
 use Rattle.frame.proofs.FieldLaws.{bigAt-lt}
-use Rattle.frame.proofs.LineLaws.{lineOfBytes, unhex-line, line-is-frame, frame-is-line}
+use Rattle.frame.proofs.LineLaws.{lineOfBytes, unhex-line, line-is-frame, frame-is-line, line-too-long}
 use Rattle.unit.specs.State.{subsequences}
 use Rattle.unit.specs.declared.State.{State}
 use Rattle.unit.specs.Kinds.{kindListed, kindRefused, kindDone}
@@ -187,17 +187,13 @@ last-frame count counts line n e = rw e
 
 -- ---- so much of a line as the longest has, and one byte more, is enough
 
-too-long : (most : ℕ) (s : List ℕ) → most + 1 < length s → lineWithin most s ≡ Malformed
-unfolding lineWithin
-too-long most s h = by-test (eqb (length s % 2) 0) (λ t. rw t) (λ t. rw (t, lt-ltb most (length s - 1) (omega arith)))
-
 pub last-near : (count : ℕ) (counts : List ℕ) (n : ℕ) (line : List ℕ) → mostListed + 1 < n → lastOf count counts (take n line) ≡ lastOf count counts line
 unfolding lastOf
 last-near count counts n line h =
     by-test (leb (length line) n)
     (λ t. rw (take-all n line (leb-true (length line) n t)))
     (λ t. let l = leb-false (length line) n t in
-    rw (too-long mostListed line (omega arith), too-long mostListed (take n line) (rw (length-take-le n line (omega arith)) h)))
+    rw (line-too-long mostListed line (omega arith), line-too-long mostListed (take n line) (rw (length-take-le n line (omega arith)) h)))
 
 -- ---- which lines say something, field by field
 

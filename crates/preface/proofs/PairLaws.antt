@@ -5,13 +5,12 @@ use mathlib.Core.Logic.{_⊎_, ⊎-elim}
 use mathlib.Core.List.{List, [], _∷_}
 use Prim.Native.Nat.{ℕ, zero, suc, _+_, _*_, _-_, _/_, _^_, _<_, _≤_}
 use native.Mathlib.Omega.{arith}
-use borrow.Author.Tests.{lt-ltb, le-ltb, eq-eqb}
+use borrow.Author.Tests.{lt-ltb, le-ltb, eq-eqb, ne-eqb}
 use lib.ListN.{length, getD}
 use Rattle.refusal.specs.Numbers.{countOut}
 use Rattle.frame.specs.Hex.{unhex}
 use Rattle.frame.specs.Line.{lineOf}
 use Rattle.frame.specs.Field.{bigAt}
-use Rattle.frame.specs.declared.field.Cursor.{Cursor}
 use Rattle.frame.proofs.HexLaws.{byte-lt, length-unhex}
 use Rattle.frame.proofs.FieldLaws.{bigAt-lt}
 use Rattle.frame.proofs.StepLaws.{past-line, past-field, past-refusal, past-limit, past-match}
@@ -69,27 +68,19 @@ symbols-start n s t p =
 
 -- ---- the symbols that a count asks for
 
-module _ (l : List ℕ) (count : ℕ) (c : Cursor) where
-  pub count-above : mostSymbols < count → Refused countOut ≡ pairSymbols (unhex l) count c
+module _ (l : List ℕ) (count at : ℕ) where
+  pub count-above : mostSymbols < count → Refused countOut ≡ pairSymbols (unhex l) count at
   unfolding pairSymbols
   count-above h = simp (lt-ltb mostSymbols count h)
 
-  pub symbols-short : count ≤ mostSymbols → length l / 2 < c .at + symbolBytes * count → pairMisframed ≡ pairSymbols (unhex l) count c
+  -- too few symbols, or bytes left over
+  pub symbols-other : count ≤ mostSymbols → (at + symbolBytes * count ≡ length l / 2 → ⊥) → pairMisframed ≡ pairSymbols (unhex l) count at
   unfolding pairSymbols
-  symbols-short h k = simp (le-ltb mostSymbols count h, length-unhex, lt-ltb _ _ k)
+  symbols-other h k = simp (le-ltb mostSymbols count h, length-unhex, ne-eqb _ _ k)
 
-  pub symbols-over : count ≤ mostSymbols → c .at + symbolBytes * count < length l / 2 → pairMisframed ≡ pairSymbols (unhex l) count c
+  pub symbols-just : count ≤ mostSymbols → at + symbolBytes * count ≡ length l / 2 → Count count ≡ pairSymbols (unhex l) count at
   unfolding pairSymbols
-  symbols-over h k =
-      let n : c .at + symbolBytes * count ≤ length l / 2 = omega arith in
-      simp (le-ltb mostSymbols count h, length-unhex, le-ltb _ _ n, lt-ltb _ _ k)
-
-  pub symbols-just : count ≤ mostSymbols → c .at + symbolBytes * count ≡ length l / 2 → Count count ≡ pairSymbols (unhex l) count c
-  unfolding pairSymbols
-  symbols-just h e =
-      let n : c .at + symbolBytes * count ≤ length l / 2 = omega arith in
-      let m : length l / 2 ≤ c .at + symbolBytes * count = omega arith in
-      simp (le-ltb mostSymbols count h, length-unhex, le-ltb _ _ n, le-ltb _ _ m)
+  symbols-just h e = simp (le-ltb mostSymbols count h, length-unhex, eq-eqb _ _ e)
 
 -- ---- the whole line
 
@@ -105,14 +96,13 @@ pub record IsPair (line : List ℕ) (number n : ℕ) : Type 0 where
   pub count : bigAt 2 (unhex line) 2 ≡ n
 
 -- the symbols behind the count
-symbols-counted : (s : List ℕ) (count : ℕ) (c : Cursor) (n : ℕ) → pairSymbols s count c ≡ Count n → (n ≤ mostSymbols) × (length s ≡ c .at + symbolBytes * n) × (count ≡ n)
+symbols-counted : (s : List ℕ) (count at n : ℕ) → pairSymbols s count at ≡ Count n → (n ≤ mostSymbols) × (length s ≡ at + symbolBytes * n) × (count ≡ n)
 unfolding pairSymbols
-symbols-counted s count c n e =
+symbols-counted s count at n e =
     let a = past-refusal _ never mostSymbols count _ e in
-    let b = past-refusal _ never (length s) (c .at + symbolBytes * count) _ (a .1) in
-    let d = past-refusal _ never (c .at + symbolBytes * count) (length s) _ (b .1) in
-    let q : count ≡ n = cc (d .1) in
-    (rw (← q) (a .0), rw (← q) (omega arith), q)
+    let b = past-match _ never (at + symbolBytes * count) (length s) _ (a .1) in
+    let q : count ≡ n = cc (b .1) in
+    (rw (← q) (a .0), rw (← q) (sym (b .0)), q)
 
 pub pair-counted : (line : List ℕ) (number n : ℕ) → Count n ≡ pairCount line number → IsPair line number n
 unfolding pairCount
