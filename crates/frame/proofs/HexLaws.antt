@@ -89,11 +89,6 @@ unfolding hexOf
 length-hexOf [] = refl
 length-hexOf (b ∷ bs) = omega (arith, length-hexOf bs)
 
-pub hexOf-append : (xs ys : List ℕ) → hexOf (xs ++ ys) ≡ hexOf xs ++ hexOf ys
-unfolding hexOf
-hexOf-append [] ys = refl
-hexOf-append (x ∷ xs) ys = rw (hexOf-append xs ys)
-
 pub digits-hexOf : (bs : List ℕ) → Bytes bs → allDigits (hexOf bs) ≡ true
 unfolding allDigits hexOf Bytes
 digits-hexOf [] h = refl

@@ -1,20 +1,18 @@
 -- The laws of a pair line: its symbols one by one, and the table after it.
 -- Assumes nothing.
 use mathlib.Core.Path.{_≡_, refl, sym, ap, _∙_}
-use mathlib.Core.Logic.{_⊎_, ⊎-elim}
 use mathlib.Core.List.{List, [], _∷_}
-use Prim.Native.Nat.{ℕ, zero, suc, _+_, _*_, _-_, _/_, _^_, _<_, _≤_}
+use Prim.Native.Nat.{ℕ, zero, suc, _+_, _*_, _-_, _/_, _<_, _≤_}
 use native.Mathlib.Omega.{arith}
 use borrow.Author.Tests.{lt-ltb, le-ltb, eq-eqb, ne-eqb}
-use lib.ListN.{length, getD}
+use lib.ListN.{length}
 use Rattle.refusal.specs.Numbers.{countOut}
 use Rattle.frame.specs.Hex.{unhex}
 use Rattle.frame.specs.Line.{lineOf}
 use Rattle.frame.specs.Field.{bigAt}
-use Rattle.frame.proofs.HexLaws.{byte-lt, length-unhex}
-use Rattle.frame.proofs.FieldLaws.{bigAt-lt}
+use Rattle.frame.proofs.HexLaws.{length-unhex}
 use Rattle.frame.proofs.StepLaws.{past-line, past-field, past-refusal, past-limit, past-match}
-use Rattle.preface.proofs.StoreLaws.{Left, left-start, length-stored, stored-inside, stored-before, stored-behind}
+use Rattle.preface.proofs.StoreLaws.{Left, left-start, length-stored}
 use Rattle.unit.specs.Kinds.{kindPair}
 use Rattle.frame.specs.Steps.{storedAt}
 use Rattle.unit.specs.State.{mostSymbols, subsequences, tableLength, symbolPlace}
@@ -28,19 +26,6 @@ pub length-symbols : (n : ℕ) (s : List ℕ) (at : ℕ) → length (symbolsAt n
 unfolding symbolsAt
 length-symbols zero s at = refl
 length-symbols (suc n) s at = ap suc (length-symbols n s (at + symbolBytes))
-
--- symbol k is the number at its place
-pub symbol-at : (n : ℕ) (s : List ℕ) (at k : ℕ) → k < n → getD (symbolsAt n s at) k 0 ≡ bigAt symbolBytes s (at + symbolBytes * k)
-unfolding symbolsAt
-symbol-at zero s at k h = absurd (omega arith)
-symbol-at (suc n) s at zero h = let e : at + symbolBytes * 0 ≡ at = omega arith in rw e
-symbol-at (suc n) s at (suc k) h =
-    let e : at + symbolBytes * suc k ≡ at + symbolBytes + symbolBytes * k = omega arith in
-    rw e (symbol-at n s (at + symbolBytes) k (omega arith))
-
--- and fits its four bytes
-pub symbol-fits : (n : ℕ) (l : List ℕ) (at k : ℕ) → k < n → getD (symbolsAt n (unhex l) at) k 0 < 256 ^ symbolBytes
-symbol-fits n l at k h = rw (symbol-at n (unhex l) at k h) (bigAt-lt symbolBytes (unhex l) (at + symbolBytes * k) (byte-lt l))
 
 -- room for so many symbols is room for them
 pub symbols-fit : (n : ℕ) (s : List ℕ) (at p : ℕ) {m : ℕ} → p + n ≤ m → p + length (symbolsAt n s at) ≤ m
@@ -159,22 +144,6 @@ module _ (line : List ℕ) (number n : ℕ) (t : List ℕ) (e : Count n ≡ pair
   table-is : tableAfter line number t ≡ storedAt t (symbolPlace number 0) (symbolsAt n (unhex line) pairHead)
   unfolding tableAfter tableBy
   table-is = rw (← e)
-
-  -- symbol k stands at its place
-  pub table-symbol : (k : ℕ) → k < n → getD (tableAfter line number t) (symbolPlace number k) 0 ≡ bigAt symbolBytes (unhex line) (pairHead + symbolBytes * k)
-  table-symbol k h =
-      let p : symbolPlace number k ≡ symbolPlace number 0 + k = omega arith in
-      let vs = symbolsAt n (unhex line) pairHead in
-      rw (table-is, p)
-      (stored-inside t (symbolPlace number 0) vs k (omega (arith, row-fits)) (rw length-symbols h) ∙ symbol-at n (unhex line) pairHead k h)
-
-  -- every other place holds what it held
-  pub table-other : (i : ℕ) → (i < symbolPlace number 0) ⊎ (symbolPlace number n ≤ i) → getD (tableAfter line number t) i 0 ≡ getD t i 0
-  table-other i =
-      let vs = symbolsAt n (unhex line) pairHead in
-      ⊎-elim
-      (λ h. rw table-is (stored-before t (symbolPlace number 0) vs i (omega (arith, row-fits)) h))
-      (λ h. rw table-is (stored-behind t (symbolPlace number 0) vs i row-fits (rw length-symbols (omega arith))))
 
 -- the table keeps its length, whatever the line says
 pub length-table : (line : List ℕ) (number : ℕ) (t : List ℕ) → length (tableAfter line number t) ≡ length t

@@ -1,6 +1,6 @@
 -- The laws of the unit line: its bytes, what an accepted line is, and that a unit's line is read back as the unit.
 -- Assumes nothing.
-use mathlib.Core.Path.{_≡_, sym, ap, _∙_}
+use mathlib.Core.Path.{_≡_, sym, _∙_}
 use mathlib.Core.List.{List, [], _++_, append-assoc, append-nil}
 use Prim.Native.Nat.{ℕ, _+_, _*_, _^_, _<_, _≤_}
 use native.Mathlib.Omega.{arith}
@@ -164,10 +164,6 @@ unit-bytes line u e =
       append-nil,
       w .kind,
     ))
-
--- an accepted line is the unit's line
-pub unit-line : (line : List ℕ) (u : Unit) → Read u ≡ unitLine line → line ≡ lineOfBytes (unitBytes u)
-unit-line line u e = unit-accepted line u e .whole ∙ ap lineOfBytes (unit-bytes line u e)
 
 -- field after field
 nested : (u : Unit) → unitBytes u ≡ be 1 kindUnit ++ (be 1 (u .class) ++ (be 1 (u .alphabet) ++ (be 1 (u .segments) ++ (be 2 (u .sequence)

@@ -38,8 +38,8 @@ impl Unit {
     // The most template segments.
     pub const SEGMENTS: u32 = 2;
 
-    // The largest sequence id, a u16 on the unit line.
-    pub const SEQUENCE: u32 = 65_535;
+    // The largest value of 16 bits: no sequence id is above it, and no value used from pair subsequence 1, 4 or 5.
+    pub const LARGEST16: u32 = 65_535;
 
     // The most records.
     pub const RECORDS: u32 = 1_024;
@@ -79,7 +79,7 @@ impl Unit {
         if Unit::RECORDS < self.records {
             return refusal::UNIT_OUT;
         }
-        if Unit::SEQUENCE < self.sequence {
+        if Unit::LARGEST16 < self.sequence {
             return refusal::UNIT_OUT;
         }
         0
