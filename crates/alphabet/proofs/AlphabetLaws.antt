@@ -11,7 +11,7 @@ use borrow.Author.Tests.{ltb-true}
 use lib.Dec.{eqb, ltb}
 use lib.ListN.{length, getD, List·getD-eq-default}
 use Rattle.frame.specs.Hex.{glyph, hexOf}
-use Rattle.frame.proofs.HexLaws.{by-test, false-true}
+use Rattle.frame.proofs.Tests.{by-test, false-true, one-of}
 use Rattle.alphabet.specs.Table35.{S₀, S₁, lettersOf, letterN, sizeOf, letterOf, codeOfN}
 use Rattle.alphabet.specs.Digits.{lettersFrom, digitsOf}
 
@@ -29,11 +29,7 @@ every-at f (x ∷ xs) t (suc k) h = by-test (f x) (λ y. every-at f xs (simp y a
 
 -- what holds of both lists of letters holds of every alphabet
 each-alphabet : (P : List ℕ → Type 0) → P S₀ → P S₁ → (alphabet : ℕ) → P (lettersOf alphabet)
-each-alphabet P p q alphabet = pick (eqb alphabet 0)
-  where
-    pick : (t : Bool) → P (cond t S₀ S₁)
-    pick true = p
-    pick false = q
+each-alphabet P p q alphabet = one-of P (eqb alphabet 0) S₀ S₁ p q
 
 -- ---- letters
 

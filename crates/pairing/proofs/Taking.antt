@@ -1,28 +1,17 @@
 -- Laws of `takeOf`: what taking one symbol does to the state. Assumes nothing.
-use mathlib.Core.Path.{_≡_, refl}
-use mathlib.Core.Bool.{Bool, true, false, cond}
+use mathlib.Core.Path.{_≡_}
 use mathlib.Core.List.{List}
 use Prim.Native.Nat.{ℕ, _+_, _<_}
 use lib.Dec.{leb}
 use lib.ListN.{length, getD, length-set}
 use lib.Seq.{getD-set-same, getD-set-other}
 use borrow.Author.Tests.{leb-false}
+pub use Rattle.frame.proofs.Tests.{cond-of as by-test, one-of}
 use Rattle.unit.specs.declared.State.{State}
 use Rattle.unit.specs.State.{subsequences, symbolPlace}
 use Rattle.pairing.specs.declared.Found.the-variants.{Symbol}
 use Rattle.pairing.specs.declared.Taken.{Taken}
 use Rattle.pairing.specs.Take.{taken, raised, symbolOf, noneLeft, takeOf}
-
--- cases
-
--- what holds of both arms of a test holds of the test; the arms know its outcome
-pub by-test : {A : Type 0} (P : A → Type 0) (b : Bool) (x y : A) → (b ≡ true → P x) → (b ≡ false → P y) → P (cond b x y)
-by-test P true x y h k = h refl
-by-test P false x y h k = k refl
-
--- the same where the arms need not know
-pub one-of : {A : Type 0} (P : A → Type 0) (b : Bool) (x y : A) → P x → P y → P (cond b x y)
-one-of P b x y h k = by-test P b x y (λ _. h) (λ _. k)
 
 -- take
 

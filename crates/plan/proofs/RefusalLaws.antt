@@ -14,7 +14,7 @@ use Rattle.frame.specs.Field.{fieldAt}
 use Rattle.frame.specs.declared.field.Cursor.{Cursor}
 use Rattle.unit.specs.Kinds.{kindRecord}
 use Rattle.frame.proofs.StepLaws.{by-line, by-field}
-use Rattle.unit.specs.State.{subsequences, tableLength}
+use Rattle.unit.specs.State.{subsequences, tableLength, within}
 use Rattle.alphabet.specs.Table35.{sizeOf}
 use Rattle.unit.specs.Unit.{classP, classI, classHM, classU, lastAlphabet, mostSegments, mostSequence, mostRecords, mostReference, leastSegments, unitRefusal}
 use Rattle.unit.specs.declared.Unit.{Unit as UnitOf}
@@ -55,7 +55,7 @@ use Rattle.segment.specs.declared.part.Part.{Part}
 use Rattle.segment.specs.declared.part.Part.the-variants.{Absent}
 use Rattle.segment.specs.declared.part.PartRead.{PartRead}
 use Rattle.segment.specs.declared.part.PartRead.the-variants as part
-use Rattle.plan.specs.Lent.{countsOut, indexesOut, stateRefusal, lentRefusal}
+use Rattle.plan.specs.Lent.{countsOut, stateRefusal, lentRefusal}
 use Rattle.plan.specs.Plan.{plan, finished, firstPart, secondPart, afterSecond, fromSecond, afterFirst, fromFirst, fromPos, settled, afterAnswer, fromKind, planOf}
 use Rattle.plan.specs.declared.read.Plan.{Plan}
 use Rattle.plan.specs.declared.read.Planned.{Planned}
@@ -341,7 +341,7 @@ unit-early u =
 state-early : (u : UnitOf) (counts : List ℕ) (state : State) → Early (stateRefusal u counts state)
 unfolding stateRefusal
 state-early u counts state =
-    one-of Early (leb (u .records) (state .number)) _ _ (lit< tt) (one-of Early (indexesOut (state .index) counts) _ _ (lit< tt) (lit< tt))
+    one-of Early (leb (u .records) (state .number)) _ _ (lit< tt) (one-of Early (within (state .index) counts) _ _ (lit< tt) (lit< tt))
 
 pub lent-early : (u : UnitOf) (bases places : ℕ) (counts : List ℕ) (state : State) → Early (lentRefusal u bases places counts state)
 unfolding lentRefusal

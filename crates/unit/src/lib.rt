@@ -4,7 +4,7 @@ pub mod listed;
 
 ghost use mathlib.Core.Path.{_≡_};
 ghost use Rattle.unit.specs.Unit.{unitRefusal, leastSegments};
-ghost use Rattle.unit.specs.State.{freshState};
+ghost use Rattle.unit.specs.State.{freshState, within as withinOf};
 
 // The unit line's eight values.
 pub struct Unit {
@@ -82,7 +82,7 @@ impl Unit {
         if Unit::LARGEST16 < self.sequence {
             return refusal::UNIT_OUT;
         }
-        0
+        refusal::FINE
     }
 }
 
@@ -109,5 +109,23 @@ impl State {
             number: 0,
             index: [0u32; State::SUBSEQUENCES],
         }
+    }
+
+    // No index is above its symbol count.
+    pub fn within(self, counts: &[u32]) -> bool
+        ensures { λ r. ⌜ r ≡ withinOf (self .index) (now (counts .entry)) ⌝ }
+    {
+        let index = self.index;
+        let mut i: usize = 0;
+        while i < State::SUBSEQUENCES {
+            if counts.len() <= i {
+                return false;
+            }
+            if counts[i] < index[i] {
+                return false;
+            }
+            i += 1;
+        }
+        true
     }
 }
