@@ -4,8 +4,8 @@ use mathlib.Core.Path.{_≡_}
 use mathlib.Core.List.{List}
 use Prim.Native.Nat.{ℕ}
 use Rattle.frame.proofs.Unique.{once}
-use Rattle.alphabet.specs.Table35.{sizeOf, letterOf, digitsOf, codeOfN, codeOf}
-use Rattle.alphabet.specs.declared.Code.{Code}
+use Rattle.alphabet.specs.Table35.{sizeOf, letterOf, codeOfN}
+use Rattle.alphabet.specs.Digits.{digitsOf}
 
 pub size-once : (alphabet : ℕ) {r r′ : ℕ} → r ≡ sizeOf alphabet → r′ ≡ sizeOf alphabet → r ≡ r′
 size-once alphabet = once
@@ -18,6 +18,3 @@ digits-once alphabet = once
 
 pub index-of-n-once : (alphabet : ℕ) {r r′ : ℕ} → r ≡ codeOfN alphabet → r′ ≡ codeOfN alphabet → r ≡ r′
 index-of-n-once alphabet = once
-
-pub index-of-once : (alphabet symbol : ℕ) {r r′ : Code} → r ≡ codeOf alphabet symbol → r′ ≡ codeOf alphabet symbol → r ≡ r′
-index-of-once alphabet symbol = once

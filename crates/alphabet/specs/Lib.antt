@@ -1,1 +1,2 @@
 pub mod Table35
+pub mod Digits

@@ -1,12 +1,7 @@
-// The two alphabets of Table 35: an index of a symbol, its letter, and back.
+// The two alphabets of Table 35: the letter of an index.
 ghost use mathlib.Core.Path.{_≡_};
-ghost use Rattle.alphabet.specs.Table35.{sizeOf, letterOf, digitsOf, codeOfN, codeOf};
-
-// What Code[symbol] of the standard is.
-pub enum Code {
-    At(u32),
-    NoSymbol,
-}
+ghost use Rattle.alphabet.specs.Table35.{sizeOf, letterOf, codeOfN};
+ghost use Rattle.alphabet.specs.Digits.{digitsOf};
 
 // Alphabet 0: A C G T N.
 const FIVE: [u8; 5] = [65, 67, 71, 84, 78];
@@ -79,19 +74,4 @@ pub fn index_of_n(alphabet: u32) -> u32
     ensures { λ r. ⌜ r ≡ codeOfN alphabet ⌝ }
 {
     if alphabet == 0 { 4 } else { 14 }
-}
-
-// The index of a letter.
-pub fn index_of(alphabet: u32, symbol: u8) -> Code
-    ensures { λ r. ⌜ r ≡ codeOf alphabet symbol ⌝ }
-{
-    let n = size(alphabet);
-    let mut i = 0;
-    while i < n {
-        if letter(alphabet, i) == symbol {
-            return Code::At(i);
-        }
-        i += 1;
-    }
-    Code::NoSymbol
 }

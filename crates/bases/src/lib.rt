@@ -19,7 +19,7 @@ ghost use Prim.Native.Nat.{_+_, _-_, _*_, _≤_};
 ghost use lib.ListN.{length};
 ghost use Rattle.frame.specs.Hex.{unhex};
 ghost use Rattle.writing.specs.Lay.{Laid};
-ghost use Rattle.alphabet.specs.Table35.{digitsOf};
+ghost use Rattle.alphabet.specs.Digits.{digitsOf};
 ghost use Rattle.bases.specs.Reference.{matchedBases, least as leastOf};
 ghost use Rattle.bases.specs.Bases.{R, r, farthest, editBases, lettersAt, mappedBases, referenceRefusal, basesText};
 

@@ -9,14 +9,9 @@ use lib.ListN.{length}
 use Rattle.refusal.specs.Numbers.{noRoom}
 use Rattle.frame.specs.Hex.{unhex}
 use Rattle.frame.specs.Line.{lineOf}
-use Rattle.frame.specs.Field.{bigAt, fieldAt, afterField}
-use Rattle.frame.specs.declared.line.Line.{Line}
-use Rattle.frame.specs.declared.line.Line.the-variants.{Frame, Malformed}
-use Rattle.frame.specs.declared.field.Cursor.{Cursor}
-use Rattle.frame.specs.declared.field.Field.{Field}
-use Rattle.frame.specs.declared.field.Field.the-variants.{Value, Short}
+use Rattle.frame.specs.Field.{bigAt, fieldAt}
 use Rattle.frame.proofs.HexLaws.{bytes-unhex}
-use Rattle.frame.specs.Steps.{afterLine}
+use Rattle.frame.proofs.StepLaws.{by-line as of-line, by-field as of-field}
 use Rattle.unit.specs.Kinds.{kindUnit, kindPair, kindReference}
 use Rattle.unit.specs.Unit.{mostRecords, mostReference, classP, classU, lastAlphabet, mostSegments, leastSegments}
 use Rattle.unit.specs.State.{mostSymbols, subsequences, tableLength}
@@ -39,69 +34,57 @@ use Rattle.listing.specs.Files.{Read, good, wrong}
 use Rattle.listing.proofs.ResumeLaws.{first-line}
 use Rattle.decoder.specs.Files.{afterBases, basesFrom, readReference, unitBy, readUnit, symbolsBy, readPair}
 
--- ---- what holds of every end of a definition
-
-module _ {X : Type 0} (P : X → Type 0) where
-  of-line : (r : Line) (bad x : X) → P bad → P x → P (afterLine bad r x)
-  of-line (Frame n) bad x h k = k
-  of-line Malformed bad x h k = h
-
-  of-field : (r : Field) (short : X) (f : ℕ → Cursor → X) → P short → ((v : ℕ) (c : Cursor) → P (f v c)) → P (afterField short r f)
-  of-field (Value v c) short f h k = k v c
-  of-field Short short f h k = h
-
 -- ---- the numbers of refusals
 
 -- of a unit line
 abbrev UnitLow : UnitLine → Type 0
 UnitLow r = unitNumber r < noRoom
 
-ends-low : (s : List ℕ) (c : Cursor) (class alphabet segments sequence first : ℕ) → UnitLow (unitEnds s c class alphabet segments sequence first)
+ends-low : (s : List ℕ) (at class alphabet segments sequence first : ℕ) → UnitLow (unitEnds s at class alphabet segments sequence first)
 unfolding unitEnds
-ends-low s c class alphabet segments sequence first =
-    of-field UnitLow (fieldAt 4 s (c .at)) _ _ (lit< tt)
+ends-low s at class alphabet segments sequence first =
+    of-field UnitLow (fieldAt 4 s at) _ _ (lit< tt)
     (λ start d. of-field UnitLow (fieldAt 4 s (d .at)) _ _ (lit< tt)
     (λ end e. one-of UnitLow (ltb end start) _ _ (lit< tt)
     (of-field UnitLow (fieldAt 2 s (e .at)) _ _ (lit< tt)
     (λ records f. one-of UnitLow (ltb mostRecords records) _ _ (lit< tt)
     (one-of UnitLow (ltb (f .at) (length s)) _ _ (lit< tt) (lit< tt))))))
 
-template-low : (s : List ℕ) (c : Cursor) (class alphabet : ℕ) → UnitLow (unitTemplate s c class alphabet)
+template-low : (s : List ℕ) (at class alphabet : ℕ) → UnitLow (unitTemplate s at class alphabet)
 unfolding unitTemplate
-template-low s c class alphabet =
-    of-field UnitLow (fieldAt 1 s (c .at)) _ _ (lit< tt)
+template-low s at class alphabet =
+    of-field UnitLow (fieldAt 1 s at) _ _ (lit< tt)
     (λ segments d. one-of UnitLow (ltb mostSegments segments) _ _ (lit< tt)
     (one-of UnitLow (ltb segments (leastSegments class)) _ _ (lit< tt)
     (of-field UnitLow (fieldAt 2 s (d .at)) _ _ (lit< tt)
     (λ sequence e. of-field UnitLow (fieldAt 4 s (e .at)) _ _ (lit< tt)
-    (λ first f. ends-low s f class alphabet segments sequence first)))))
+    (λ first f. ends-low s (f .at) class alphabet segments sequence first)))))
 
-class-low : (s : List ℕ) (c : Cursor) → UnitLow (unitClass s c)
+class-low : (s : List ℕ) (at : ℕ) → UnitLow (unitClass s at)
 unfolding unitClass
-class-low s c =
-    of-field UnitLow (fieldAt 1 s (c .at)) _ _ (lit< tt)
+class-low s at =
+    of-field UnitLow (fieldAt 1 s at) _ _ (lit< tt)
     (λ class d. one-of UnitLow (ltb class classP) _ _ (lit< tt)
     (one-of UnitLow (ltb classU class) _ _ (lit< tt)
     (of-field UnitLow (fieldAt 1 s (d .at)) _ _ (lit< tt)
-    (λ alphabet e. one-of UnitLow (ltb lastAlphabet alphabet) _ _ (lit< tt) (template-low s e class alphabet)))))
+    (λ alphabet e. one-of UnitLow (ltb lastAlphabet alphabet) _ _ (lit< tt) (template-low s (e .at) class alphabet)))))
 
 unit-low : (line : List ℕ) → UnitLow (unitLine line)
 unfolding unitLine
 unit-low line =
     of-line UnitLow (lineOf line) _ _ (lit< tt)
     (of-field UnitLow (fieldAt 1 (unhex line) 0) _ _ (lit< tt)
-    (λ kind c. one-of UnitLow (eqb kind kindUnit) _ _ (class-low (unhex line) c) (lit< tt)))
+    (λ kind c. one-of UnitLow (eqb kind kindUnit) _ _ (class-low (unhex line) (c .at)) (lit< tt)))
 
 -- of a pair line
 abbrev PairLow : PairLine → Type 0
 PairLow r = pairNumber r < noRoom
 
-symbols-low : (s : List ℕ) (count : ℕ) (c : Cursor) → PairLow (pairSymbols s count c)
+symbols-low : (s : List ℕ) (count at : ℕ) → PairLow (pairSymbols s count at)
 unfolding pairSymbols
-symbols-low s count c =
+symbols-low s count at =
     one-of PairLow (ltb mostSymbols count) _ _ (lit< tt)
-    (one-of PairLow (ltb (length s) (c .at + symbolBytes * count)) _ _ (lit< tt)
-    (one-of PairLow (ltb (c .at + symbolBytes * count) (length s)) _ _ (lit< tt) (lit< tt)))
+    (one-of PairLow (eqb (at + symbolBytes * count) (length s)) _ _ (lit< tt) (lit< tt))
 
 count-low : (line : List ℕ) (number : ℕ) → PairLow (pairCount line number)
 unfolding pairCount
@@ -111,7 +94,7 @@ count-low line number =
     (λ kind c. one-of PairLow (eqb kind kindPair) _ _
     (of-field PairLow (fieldAt 1 (unhex line) (c .at)) _ _ (lit< tt)
     (λ sub d. one-of PairLow (eqb sub number) _ _
-    (of-field PairLow (fieldAt 2 (unhex line) (d .at)) _ _ (lit< tt) (λ count e. symbols-low (unhex line) count e))
+    (of-field PairLow (fieldAt 2 (unhex line) (d .at)) _ _ (lit< tt) (λ count e. symbols-low (unhex line) count (e .at)))
     (lit< tt)))
     (lit< tt)))
 

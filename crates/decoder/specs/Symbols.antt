@@ -6,7 +6,7 @@ use mathlib.Core.Bool.{cond}
 use mathlib.Core.List.{List, [], _∷_, _++_}
 use lib.Dec.{eqb}
 use lib.ListN.{length, getD}
-use Rattle.frame.proofs.LineLaws.{lineOfBytes}
+use Rattle.frame.specs.Line.{lineOfBytes}
 use Rattle.unit.specs.State.{subsequences, freshState}
 use Rattle.unit.specs.Listed.{Step, refused, accepted, headOf}
 use Rattle.unit.specs.declared.Unit.{Unit}

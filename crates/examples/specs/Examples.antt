@@ -9,7 +9,7 @@ use lib.ListN.{replicate, take, drop}
 use Rattle.refusal.specs.Numbers.{offsetOut}
 use Rattle.frame.specs.Line.{lineEnd, lineWithin}
 use Rattle.unit.specs.Unit.{classP, classN, classM, classI, classU, leastSegments, unitRefusal}
-use Rattle.unit.specs.State.{freshState, mostSymbols}
+use Rattle.unit.specs.State.{freshState, mostSymbols, within}
 use Rattle.unit.specs.Listed.{Step, refused, accepted, leastListed, words, headOf}
 use Rattle.unit.specs.declared.Unit.{Unit}
 use Rattle.bases.specs.Bases.{pastEdit, editBases, basesFrom, refusalFrom, lettersAt, basesText}
@@ -24,7 +24,7 @@ use Rattle.frame.specs.Hex.{isDigit, nib, unhex, allDigits, be}
 use Rattle.pairing.specs.Pairing.{decode, recordSteps, pairOf}
 use Rattle.pairing.specs.Table60.{same-rec, table60}
 use Rattle.pairing.specs.Take.{takeOf}
-use Rattle.plan.specs.Lent.{countsOut, indexesOut, stateRefusal, lentRefusal}
+use Rattle.plan.specs.Lent.{countsOut, stateRefusal, lentRefusal}
 use Rattle.plan.specs.Plan.{finished as finishedPlan, firstPart, secondPart, fromSecond, fromFirst, fromPos, fromKind, planOf}
 use Rattle.segment.specs.Aligned.{tallied as talliedSegment, fromEdits, fromSoft, fromClips, fromRcomp, alignedAt}
 use Rattle.segment.specs.Checked.{lengthAt, rcompAt, countAt}
@@ -133,5 +133,5 @@ table =
 
 -- every row: what the definitions answer is what the document prints
 pub examples : map (λ (x : Example). x .found) table ≡ map (λ (x : Example). x .expected) table
-unfolding pastEdit editBases basesFrom refusalFrom lettersAt basesText isLent baseAt baseRefusal matchedBases matchRefusal widthOf editAt editsAt nextOffset deletionRefusal editRefusal takenFrom editsRefusal answered editsChecked checkOf joinsRun past matches closed gap mark ending operationsFrom clip segmentOperations ecigarText printed decimalF decimal bigAt fieldAt isDigit nib unhex allDigits be lineWithin decode recordSteps pairOf same-rec table60 takeOf countsOut indexesOut stateRefusal lentRefusal firstPart secondPart fromSecond fromFirst fromPos fromKind planOf linkBytes listedBytes stepOf fromEdits fromSoft fromClips fromRcomp alignedAt lengthAt rcompAt countAt clipsIn clipsAt placed placedAt plainAt alignedBytes unalignedBytes partBytes placeRefusal symbolsFrom fromLength unalignedAt words headOf sizeOf letterOf codeOfN leastSegments unitRefusal finishedPlan talliedSegment
+unfolding pastEdit editBases basesFrom refusalFrom lettersAt basesText isLent baseAt baseRefusal matchedBases matchRefusal widthOf editAt editsAt nextOffset deletionRefusal editRefusal takenFrom editsRefusal answered editsChecked checkOf joinsRun past matches closed gap mark ending operationsFrom clip segmentOperations ecigarText printed decimalF decimal bigAt fieldAt isDigit nib unhex allDigits be lineWithin decode recordSteps pairOf same-rec table60 takeOf countsOut within stateRefusal lentRefusal firstPart secondPart fromSecond fromFirst fromPos fromKind planOf linkBytes listedBytes stepOf fromEdits fromSoft fromClips fromRcomp alignedAt lengthAt rcompAt countAt clipsIn clipsAt placed placedAt plainAt alignedBytes unalignedBytes partBytes placeRefusal symbolsFrom fromLength unalignedAt words headOf sizeOf letterOf codeOfN leastSegments unitRefusal finishedPlan talliedSegment
 examples = refl

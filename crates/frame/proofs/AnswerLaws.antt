@@ -5,39 +5,14 @@ use mathlib.Core.List.{List, _++_}
 use Prim.Native.Nat.{ℕ, zero, suc, _+_, _*_, _/_, _%_, _^_, _<_, _≤_}
 use native.Mathlib.Numerals.{add-one}
 use native.Mathlib.Omega.{arith}
-use borrow.Author.Tests.{le-leb, leb-true}
-use lib.Dec.{leb}
+use borrow.Author.Tests.{le-leb}
 use lib.ListN.{length, take, drop, getD, length-append, length-drop, take-append-drop}
 use lib.Seq.{take-suc, getD-drop, drop-drop, drop-at, length-take-le}
 use Rattle.frame.specs.Hex.{unhex, be}
 use Rattle.frame.specs.Field.{bigAt, fieldAt}
-use Rattle.frame.specs.declared.field.Cursor.{Cursor}
-use Rattle.frame.specs.declared.field.Field.the-variants.{Value, Short}
-use Rattle.frame.proofs.HexLaws.{by-test, byte-lt, be-one, be-add, length-be}
+use Rattle.frame.specs.declared.field.Field.the-variants.{Value}
+use Rattle.frame.proofs.HexLaws.{byte-lt, be-one, be-add, length-be}
 use Rattle.frame.proofs.FieldLaws.{bigAt-same, field-back}
-
--- ---- a field that was answered
-
--- what `Value v c` says of the field
-pub record IsField (k : ℕ) (s : List ℕ) (at v : ℕ) (c : Cursor) : Type 0 where
-  pub fits : at + k ≤ length s
-  pub number : v ≡ bigAt k s at
-  pub next : c .at ≡ at + k
-
-pub value-is-field : (k : ℕ) (s : List ℕ) (at v : ℕ) (c : Cursor) → Value v c ≡ fieldAt k s at → IsField k s at v c
-unfolding fieldAt
-value-is-field k s at v c e =
-    by-test (leb (at + k) (length s))
-    (λ t.
-    let q : Value v c ≡ Value (bigAt k s at) (record { at = at + k }) = simp t at e in
-    let d : c ≡ record { at = at + k } = cc in
-    record { fits = leb-true _ _ t; number = cc; next = ap (λ (x : Cursor). x .at) d })
-    (λ t. absurd (let q : Value v c ≡ Short = simp t at e in let z : _≡_ {A = ℕ} 0 1 = cc in omega arith))
-
--- a field that is complete is not short
-pub never-short : {P : Type 0} (k : ℕ) (s : List ℕ) (at : ℕ) → at + k ≤ length s → Short ≡ fieldAt k s at → P
-unfolding fieldAt
-never-short k s at h e = absurd (let q : Short ≡ Value (bigAt k s at) (record { at = at + k }) = simp (le-leb (at + k) (length s) h) at e in let z : _≡_ {A = ℕ} 0 1 = cc in omega arith)
 
 -- ---- a frame, cut behind a field
 

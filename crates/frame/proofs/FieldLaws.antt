@@ -49,32 +49,32 @@ pub field-value : (k : ℕ) (l : List ℕ) (at v : ℕ) → at + k ≤ length l 
 unfolding fieldAt
 field-value k l at v h e = simp (le-leb (at + k) (length (unhex l)) (rw length-unhex h), e)
 
--- what a field that is complete is: its bytes are there, its value fits them, and the next place is behind them
-pub record Complete (k : ℕ) (l : List ℕ) (at v next : ℕ) : Type 0 where
-  pub value : v ≡ bigAt k (unhex l) at
-  pub fits : v < 256 ^ k
-  pub behind : next ≡ at + k
-  pub inside : next ≤ length l / 2
+-- ---- a field that was answered
 
-pub field-complete : (k : ℕ) (l : List ℕ) (at v : ℕ) (c : Cursor) → fieldAt k (unhex l) at ≡ Value v c → Complete k l at v (c .at)
+-- what `Value v c` says of the field
+pub record IsField (k : ℕ) (s : List ℕ) (at v : ℕ) (c : Cursor) : Type 0 where
+  pub fits : at + k ≤ length s
+  pub number : v ≡ bigAt k s at
+  pub next : c .at ≡ at + k
+
+pub value-is-field : (k : ℕ) (s : List ℕ) (at v : ℕ) (c : Cursor) → Value v c ≡ fieldAt k s at → IsField k s at v c
 unfolding fieldAt
-field-complete k l at v c q =
-    by-test (leb (at + k) (length (unhex l)))
+value-is-field k s at v c e =
+    by-test (leb (at + k) (length s))
     (λ t.
-    let e : _≡_ {A = Field} (Value (bigAt k (unhex l) at) (record { at = at + k })) (Value v c) = simp t at q in
-    let value : v ≡ bigAt k (unhex l) at = cc in
-    let behind : c .at ≡ at + k = cc in
-    record {
-      value = value;
-      fits = rw value (bigAt-lt k (unhex l) at (byte-lt l));
-      behind = behind;
-      inside = omega (arith, leb-true (at + k) (length (unhex l)) t, length-unhex l);
-    })
-    (λ t. absurd (let e : _≡_ {A = Field} Short (Value v c) = simp t at q in let z : _≡_ {A = ℕ} 0 1 = cc in omega arith))
+    let q : Value v c ≡ Value (bigAt k s at) (record { at = at + k }) = simp t at e in
+    let d : c ≡ record { at = at + k } = cc in
+    record { fits = leb-true _ _ t; number = cc; next = ap (λ (x : Cursor). x .at) d })
+    (λ t. absurd (let q : Value v c ≡ Short = simp t at e in let z : _≡_ {A = ℕ} 0 1 = cc in omega arith))
 
--- the same of an answer that was taken apart
+-- a field that is complete is not short
+pub never-short : {P : Type 0} (k : ℕ) (s : List ℕ) (at : ℕ) → at + k ≤ length s → Short ≡ fieldAt k s at → P
+unfolding fieldAt
+never-short k s at h e = absurd (let q : Short ≡ Value (bigAt k s at) (record { at = at + k }) = simp (le-leb (at + k) (length s) h) at e in let z : _≡_ {A = ℕ} 0 1 = cc in omega arith)
+
+-- its number fits its bytes
 pub value-fits : (k : ℕ) (l : List ℕ) (at v : ℕ) (c : Cursor) {answer : Field} → answer ≡ fieldAt k (unhex l) at → answer ≡ Value v c → v < 256 ^ k
-value-fits k l at v c e h = field-complete k l at v c (sym e ∙ h) .fits
+value-fits k l at v c e h = rw (value-is-field k (unhex l) at v c (sym h ∙ e) .number) (bigAt-lt k (unhex l) at (byte-lt l))
 
 -- ---- a number that was laid is read back
 

@@ -1,3 +1,4 @@
+pub mod Tests
 pub mod HexLaws
 pub mod FieldLaws
 pub mod LineLaws

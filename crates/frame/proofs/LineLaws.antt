@@ -1,20 +1,20 @@
 -- The laws of a line: a well-formed line is the line of its bytes, and the line of bytes is well formed.
 -- Assumes nothing.
-use mathlib.Core.Path.{_≡_, refl, sym, ap, _∙_}
-use mathlib.Core.Bool.{Bool, true, false, cond}
+use mathlib.Core.Path.{_≡_, sym, ap, _∙_}
+use mathlib.Core.Bool.{true, false}
 use mathlib.Core.List.{List, [], _∷_, _++_, append-nil}
-use Prim.Native.Nat.{ℕ, zero, suc, _+_, _*_, _-_, _/_, _%_, _<_, _≤_}
+use Prim.Native.Nat.{ℕ, suc, _+_, _*_, _-_, _/_, _%_, _<_, _≤_}
 use native.Mathlib.Numerals.{add-one}
 use native.Mathlib.Omega.{arith}
-use borrow.Author.Tests.{lt-ltb, le-ltb, ltb-true, ltb-false, eq-eqb, ne-eqb, eqb-true, eqb-false}
+use borrow.Author.Tests.{lt-ltb, le-ltb, ltb-false, ne-eqb, eqb-true, eqb-false}
 use lib.Dec.{ltb, eqb}
-use lib.ListN.{length, take, drop, getD, length-append, take-append-drop, drop-of-length-le}
+use lib.ListN.{length, take, getD, length-append, take-append-drop, drop-of-length-le}
 use lib.Seq.{getD-at, take-at, slice, slice-cons, slice-empty, length-take-le, drop-cons}
 use Rattle.frame.specs.Hex.{isDigit, unhex, hexOf, allDigits, Bytes}
 use Rattle.frame.specs.Line.{lineEnd, lineWithin}
-use Rattle.frame.specs.declared.line.Line.{Line}
+pub use Rattle.frame.specs.Line.{lineOfBytes}
 use Rattle.frame.specs.declared.line.Line.the-variants.{Frame, Malformed}
-use Rattle.frame.proofs.HexLaws.{by-test, false-true, length-hexOf, digits-hexOf, unhex-hexOf, hexOf-unhex, bytes-unhex}
+use Rattle.frame.proofs.HexLaws.{by-test, length-hexOf, digits-hexOf, unhex-hexOf, hexOf-unhex, bytes-unhex}
 
 -- ---- a scan of digits, from index i up to index m
 
@@ -31,10 +31,6 @@ unfolding allDigits
 digits-end l m i h k = let e : i ≡ m = omega arith in rw (e, slice-empty)
 
 -- ---- the line of bytes
-
--- the line that carries these bytes
-abbrev pub lineOfBytes : List ℕ → List ℕ
-lineOfBytes bs = hexOf bs ++ lineEnd ∷ []
 
 pub length-line : (bs : List ℕ) → length (lineOfBytes bs) ≡ 2 * length bs + 1
 length-line bs = rw (length-append, length-hexOf)
@@ -108,3 +104,16 @@ frame-is-line most s n q =
           fits = fits;
           long = size;
         }
+
+-- ---- a line that is refused: too long, or without 0A
+
+pub line-too-long : (most : ℕ) (s : List ℕ) → most + 1 < length s → lineWithin most s ≡ Malformed
+unfolding lineWithin
+line-too-long most s h = by-test (eqb (length s % 2) 0) (λ t. simp t) (λ t. simp (t, lt-ltb most (length s - 1) (omega arith)))
+
+-- an empty line has none
+pub line-unended : (most : ℕ) (s : List ℕ) → (getD s (length s - 1) 0 ≡ lineEnd → ⊥) → lineWithin most s ≡ Malformed
+unfolding lineWithin
+line-unended most s h =
+    by-test (eqb (length s % 2) 0) (λ t. simp t) (λ t.
+    by-test (ltb most (length s - 1)) (λ u. simp (t, u)) (λ u. simp (t, u, ne-eqb _ _ h)))

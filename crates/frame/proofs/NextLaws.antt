@@ -1,14 +1,14 @@
 -- The laws of the first line: what is looked at, and each turn of the scan.
 -- Assumes nothing.
-use mathlib.Core.Path.{_≡_, refl, sym, ap, _∙_}
-use mathlib.Core.Bool.{Bool, true, false, cond}
-use mathlib.Core.List.{List, [], _∷_}
-use Prim.Native.Nat.{ℕ, zero, suc, _+_, _<_, _≤_}
+use mathlib.Core.Path.{_≡_, ap}
+use mathlib.Core.Bool.{cond}
+use mathlib.Core.List.{List}
+use Prim.Native.Nat.{ℕ, _+_, _<_, _≤_}
 use native.Mathlib.Numerals.{add-one}
 use native.Mathlib.Omega.{arith}
 use borrow.Author.Tests.{eq-eqb, ne-eqb, le-leb, lt-leb, leb-true, leb-false}
 use lib.Dec.{eqb, leb}
-use lib.ListN.{length, take, getD, length-take}
+use lib.ListN.{length, take, getD}
 use lib.Seq.{take-take, take-all, length-take-le, slice, slice-cons, slice-empty}
 use Rattle.frame.specs.Line.{lineDigits, lineEnd}
 use Rattle.frame.specs.Next.{endedBy, windowOf, nextLine}
@@ -41,13 +41,14 @@ pub next-near : (s : List ℕ) → nextLine (take (lineDigits + 1) s) ≡ nextLi
 unfolding nextLine
 next-near s =
     by-test (leb (length s) lineDigits)
-    (λ e. rw (take-all (lineDigits + 1) s (omega (arith, leb-true (length s) lineDigits e))))
+    (λ e. ap nextLine (take-all (lineDigits + 1) s (omega (arith, leb-true (length s) lineDigits e))))
     (λ e. far (leb-false (length s) lineDigits e))
   where
     far : lineDigits < length s → nextLine (take (lineDigits + 1) s) ≡ nextLine s
     far h =
         let n : length (take (lineDigits + 1) s) ≡ lineDigits + 1 = length-take-le (lineDigits + 1) s (omega arith) in
-        rw (n, window-most (length s) h, window-most (lineDigits + 1) (omega arith), take-take (lineDigits + 1) (lineDigits + 1) s (omega arith))
+        let m : length s ≡ 0 → ⊥ = λ e. omega arith in
+        simp (n, ne-eqb _ _ m, lt-leb (length s) lineDigits h, take-take (lineDigits + 1) (lineDigits + 1) s (omega arith))
 
 -- ---- the scan, from index i up to index m
 
@@ -67,4 +68,12 @@ ended-not l m i h k o = let e : i ≡ m = omega arith in rw (e, slice-empty)
 pub next-at : (s : List ℕ) (m : ℕ) → m ≡ windowOf (length s)
     → nextLine s ≡ cond (eqb m 0) Nothing (endedBy 0 (take m s) (cond (leb m lineDigits) NoEnd TooLong))
 unfolding nextLine
-next-at s m e = rw (← e)
+next-at s m e =
+    by-test (leb (length s) lineDigits)
+    (λ t.
+    let h : length s ≤ lineDigits = leb-true (length s) lineDigits t in
+    rw (e, window-all (length s) h, take-all (lineDigits + 1) s (omega arith), take-all (length s) s (omega arith)))
+    (λ t.
+    let h : lineDigits < length s = leb-false (length s) lineDigits t in
+    let n : length s ≡ 0 → ⊥ = λ z. omega arith in
+    rw (e, window-most (length s) h) (simp (ne-eqb _ _ n, t)))

@@ -28,6 +28,7 @@ unhex [] = []
 unhex (a ∷ []) = []
 unhex (a ∷ b ∷ ds) = (nib a * 16 + nib b) ∷ unhex ds
 
+-- digits and nothing else
 unfoldable pub allDigits : List ℕ → Bool
 allDigits [] = true
 allDigits (d ∷ ds) = cond (isDigit d) (allDigits ds) false

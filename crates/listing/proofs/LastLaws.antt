@@ -1,6 +1,6 @@
 -- The laws of the last kept line: what each line of a listing says, and which lines can be continued.
 -- Assumes nothing.
-use Prim.Native.Nat.{ℕ, zero, suc, _+_, _-_, _*_, _%_, _≤_, _<_}
+use Prim.Native.Nat.{ℕ, zero, suc, _+_, _-_, _*_, _≤_, _<_}
 use native.Mathlib.Nat.{add-zero, zero-add, zero-mul}
 use native.Mathlib.Numerals.{add-one}
 use native.Mathlib.Omega.{arith}
@@ -8,8 +8,8 @@ use mathlib.Core.Path.{_≡_, refl, sym, ap, _∙_}
 use mathlib.Core.Bool.{true, false}
 use mathlib.Core.List.{List, [], _∷_, _++_, append-assoc, append-nil}
 use lib.Dec.{ltb, leb, eqb, lit<, lit≤}
-use lib.ListN.{length, getD, take, drop, set, length-set, drop-of-length-le, List·getD-eq-default}
-use lib.Seq.{drop-cons, take-all, take-suc-set, length-take-le}
+use lib.ListN.{length, getD, take, set, length-set, List·getD-eq-default}
+use lib.Seq.{take-all, take-suc-set, length-take-le}
 use borrow.Author.Tests.{lt-ltb, le-ltb, ltb-true, ltb-false, eq-eqb, ne-eqb, eqb-true, eqb-false, leb-true, leb-false}
 use Rattle.frame.specs.Hex.{Bytes, unhex, be}
 use Rattle.frame.specs.Line.{lineWithin}
@@ -18,45 +18,14 @@ use Rattle.frame.specs.declared.line.Line.{Line}
 use Rattle.frame.specs.declared.line.Line.the-variants.{Frame, Malformed}
 use Rattle.frame.proofs.HexLaws.{by-test, false-true, byte-lt}
 use Rattle.frame.proofs.FieldLaws.{bigAt-lt}
-use Rattle.frame.proofs.LineLaws.{lineOfBytes, unhex-line, line-is-frame, frame-is-line}
-use Rattle.unit.specs.State.{subsequences}
+use Rattle.frame.proofs.LineLaws.{lineOfBytes, unhex-line, line-is-frame, frame-is-line, line-too-long}
+use Rattle.unit.specs.State.{subsequences, within}
+use Rattle.unit.proofs.StateLaws.{within-all, within-each}
 use Rattle.unit.specs.declared.State.{State}
 use Rattle.unit.specs.Kinds.{kindListed, kindRefused, kindDone}
 use Rattle.unit.specs.Listed.{mostListed, leastListed, numberPlace, indexPlace}
 use Rattle.listing.specs.Listing.{line05, line06}
-use Rattle.listing.specs.Resuming.{Last, goOn, whole, bad, bytes05, bytes06, wordsAt, stateAt, within, listedLast, frameLast, ifFrame, lastOf, ListedLine, ClosingLine}
-
--- ---- within
-
-pub within-all : (is cs : List ℕ) → length is ≡ length cs → ((i : ℕ) → getD is i 0 ≤ getD cs i 0) → within is cs ≡ true
-unfolding within
-within-all [] [] e h = refl
-within-all [] (c ∷ cs) e h = absurd (omega arith)
-within-all (i ∷ is) [] e h = absurd (omega arith)
-within-all (i ∷ is) (c ∷ cs) e h = rw (le-ltb c i (h 0)) (within-all is cs (omega arith) (λ j. h (suc j)))
-
-pub within-each : (is cs : List ℕ) → within is cs ≡ true → (i : ℕ) → getD is i 0 ≤ getD cs i 0
-unfolding within
-within-each [] [] e i = omega arith
-within-each [] (c ∷ cs) e i = false-true e
-within-each (i ∷ is) [] e j = false-true e
-within-each (i ∷ is) (c ∷ cs) e zero = by-test (ltb c i) (λ t. false-true (simp t at e)) (λ t. ltb-false c i t)
-within-each (i ∷ is) (c ∷ cs) e (suc j) = by-test (ltb c i) (λ t. false-true (simp t at e)) (λ t. within-each is cs (simp t at e) j)
-
--- the comparison, at place j of both
-module _ (is cs : List ℕ) (j : ℕ) where
-  pub within-over : length is ≤ j → length cs ≤ j → within (drop j is) (drop j cs) ≡ true
-  unfolding within
-  within-over h k = rw (drop-of-length-le is {i = j} h, drop-of-length-le cs {i = j} k)
-
-  module _ (h : j < length is) (k : j < length cs) where
-    pub within-stops : getD cs j 0 < getD is j 0 → within (drop j is) (drop j cs) ≡ false
-    unfolding within
-    within-stops l = rw (drop-cons is j 0 h, drop-cons cs j 0 k, lt-ltb _ _ l)
-
-    pub within-goes : getD is j 0 ≤ getD cs j 0 → within (drop j is) (drop j cs) ≡ within (drop (j + 1) is) (drop (j + 1) cs)
-    unfolding within
-    within-goes l = rw (drop-cons is j 0 h, drop-cons cs j 0 k, le-ltb _ _ l, add-one)
+use Rattle.listing.specs.Resuming.{Last, goOn, whole, bad, bytes05, bytes06, wordsAt, stateAt, listedLast, frameLast, ifFrame, lastOf, ListedLine, ClosingLine}
 
 -- ---- the numbers of a frame, one by one
 
@@ -187,17 +156,13 @@ last-frame count counts line n e = rw e
 
 -- ---- so much of a line as the longest has, and one byte more, is enough
 
-too-long : (most : ℕ) (s : List ℕ) → most + 1 < length s → lineWithin most s ≡ Malformed
-unfolding lineWithin
-too-long most s h = by-test (eqb (length s % 2) 0) (λ t. rw t) (λ t. rw (t, lt-ltb most (length s - 1) (omega arith)))
-
 pub last-near : (count : ℕ) (counts : List ℕ) (n : ℕ) (line : List ℕ) → mostListed + 1 < n → lastOf count counts (take n line) ≡ lastOf count counts line
 unfolding lastOf
 last-near count counts n line h =
     by-test (leb (length line) n)
     (λ t. rw (take-all n line (leb-true (length line) n t)))
     (λ t. let l = leb-false (length line) n t in
-    rw (too-long mostListed line (omega arith), too-long mostListed (take n line) (rw (length-take-le n line (omega arith)) h)))
+    rw (line-too-long mostListed line (omega arith), line-too-long mostListed (take n line) (rw (length-take-le n line (omega arith)) h)))
 
 -- ---- which lines say something, field by field
 

@@ -26,7 +26,8 @@ use Rattle.listing.specs.Listing.{Front, alone, unpaired, ready, line05,
 use Rattle.listing.specs.Resuming.{goOn, stateAt, lastOf, lastFrom, edgesOf, second, onLast, countOf, countsOf, place, Answer, add, skip, from, added, supply, supplied, resumed, torn, resumedAgain}
 use Rattle.listing.proofs.LinesLaws.{same-refl, same-false, whole-bytes, whole-frame, whole-ends, lines-line, kept-zeros, Cut, inside, beyond, kept-cut}
 use Rattle.listing.proofs.WordLaws.{state-head}
-use Rattle.listing.proofs.LastLaws.{within-all, last-bytes, last-05, last-06, frame-listed}
+use Rattle.unit.proofs.StateLaws.{within-all}
+use Rattle.listing.proofs.LastLaws.{last-bytes, last-05, last-06, frame-listed}
 
 -- ---- the first line
 

@@ -15,7 +15,7 @@ use Rattle.frame.specs.Field.{bigAt}
 use Rattle.frame.specs.declared.line.Line.{Line}
 use Rattle.frame.specs.declared.line.Line.the-variants.{Frame, Malformed}
 use Rattle.frame.proofs.LineLaws.{lineOfBytes}
-use Rattle.unit.specs.State.{subsequences}
+use Rattle.unit.specs.State.{subsequences, within}
 use Rattle.unit.specs.declared.State.{State}
 use Rattle.unit.specs.Kinds.{kindUnit}
 use Rattle.listing.specs.Lines.{pushByte, linesOf, joined, ends, keptWith, kept, same}
@@ -24,7 +24,7 @@ use Rattle.listing.specs.Record.{Setup, Accepted, FirstLine, Lawful}
 use Rattle.listing.proofs.ResumeLaws.{first-line}
 use Rattle.listing.proofs.WordLaws.{bytes-append, bytes-head, length-head}
 use Rattle.listing.specs.Listing.{Front, ready, line05, lastLine, records, firstOf, restOf, listing}
-use Rattle.listing.specs.Resuming.{wordsAt, stateAt, within, listedLast, frameLast, lastOf, lastFrom, edgesOf, countOf, countsOf, place, Answer, add, refuse, skip, from, added, supply, supplied, torn}
+use Rattle.listing.specs.Resuming.{wordsAt, stateAt, listedLast, frameLast, lastOf, lastFrom, edgesOf, countOf, countsOf, place, Answer, add, refuse, skip, from, added, supply, supplied, torn}
 
 -- two records, no pair symbols; every well-formed line is accepted
 abbrev toyCount : ℕ

@@ -7,10 +7,9 @@ use mathlib.Core.List.{List, [], _∷_, _++_}
 use lib.ListN.{getD}
 use Rattle.refusal.specs.Numbers.{missing, noRoom}
 use Rattle.frame.specs.Hex.{unhex, be}
-use Rattle.frame.specs.Line.{lineWithin}
+use Rattle.frame.specs.Line.{lineWithin, lineOfBytes}
 use Rattle.frame.specs.Field.{bigAt}
 use Rattle.frame.specs.declared.line.Line.the-variants.{Frame}
-use Rattle.frame.proofs.LineLaws.{lineOfBytes}
 use Rattle.unit.specs.State.{freshState}
 use Rattle.unit.specs.declared.State.{State}
 use Rattle.unit.specs.Kinds.{kindListed, kindRefused, kindDone}

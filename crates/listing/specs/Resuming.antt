@@ -2,7 +2,7 @@
 -- Assumes nothing.
 use Prim.Native.Nat.{ℕ, zero, suc, _+_, _-_, _*_, _<_, _≤_}
 use mathlib.Core.Path.{_≡_}
-use mathlib.Core.Bool.{Bool, true, false, cond}
+use mathlib.Core.Bool.{cond}
 use mathlib.Core.Logic.{_⊎_}
 use mathlib.Core.List.{List, [], _∷_, _++_}
 use mathlib.Core.Option.{Option, none, some}
@@ -14,7 +14,7 @@ use Rattle.frame.specs.Line.{lineWithin}
 use Rattle.frame.specs.Field.{bigAt}
 use Rattle.frame.specs.declared.line.Line.{Line}
 use Rattle.frame.specs.declared.line.Line.the-variants.{Frame, Malformed}
-use Rattle.unit.specs.State.{subsequences}
+use Rattle.unit.specs.State.{subsequences, within}
 use Rattle.unit.specs.declared.State.{State}
 use Rattle.unit.specs.Kinds.{kindListed, kindRefused, kindDone}
 use Rattle.listing.specs.Lines.{linesOf, joined, ends, kept, same}
@@ -46,13 +46,6 @@ wordsAt (suc k) bs at = bigAt 2 bs at ∷ wordsAt k bs (at + 2)
 -- the state behind the record of an 04 line: the next record's number, and the indexes after this one
 unfoldable pub stateAt : List ℕ → State
 stateAt bs = record { number = bigAt 2 bs numberPlace + 1; index = wordsAt subsequences bs indexPlace }
-
--- each of some indexes is not above its symbol count
-unfoldable pub within : List ℕ → List ℕ → Bool
-within [] [] = true
-within [] (c ∷ cs) = false
-within (i ∷ is) [] = false
-within (i ∷ is) (c ∷ cs) = cond (ltb c i) false (within is cs)
 
 -- "an 04 line of at least 28 bytes with a number below the record count and indexes not above the symbol counts"
 unfoldable pub listedLast : ℕ → List ℕ → List ℕ → Last

@@ -6,7 +6,7 @@ use mathlib.Core.List.{List, [], _∷_, _++_}
 use mathlib.Core.Option.{Option, none, some}
 use lib.Dec.{ltb}
 use Rattle.refusal.specs.Numbers.{missing}
-use Rattle.frame.proofs.LineLaws.{lineOfBytes}
+use Rattle.frame.specs.Line.{lineOfBytes}
 use Rattle.unit.specs.declared.State.{State}
 use Rattle.unit.specs.Listed.{Step, refused, accepted}
 use Rattle.listing.specs.Record.{Setup}

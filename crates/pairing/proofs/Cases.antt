@@ -4,12 +4,11 @@ use mathlib.Core.Bool.{true}
 use Prim.Native.Nat.{ℕ, _+_, _/_, _<_, _≤_}
 use native.Mathlib.Omega.{arith}
 use lib.Dec.{eqb, lit≤}
-use Rattle.unit.specs.Unit.{classU, mostSegments}
+use Rattle.unit.specs.Unit.{classU, mostSegments, largest16}
 use Rattle.pairing.specs.declared.Mate.{Mate}
 use Rattle.pairing.specs.declared.Mate.the-variants.{Unpaired, Near, Far}
 use Rattle.pairing.specs.declared.Link.{Link}
-use Rattle.pairing.specs.Table60.{Steps, reserved, mateSeqId, mappingPos, mateAt, HM-same-rec, same-rec, split, diff-ref-seq, R1-unpaired, R2-unpaired, table60}
-use Rattle.pairing.specs.Pairing.{largest16}
+use Rattle.pairing.specs.Table60.{Steps, reserved, mateAt, HM-same-rec, same-rec, split, diff-ref-seq, R1-unpaired, R2-unpaired, table60}
 use Rattle.pairing.proofs.Taking.{by-test, one-of}
 use Rattle.pairing.proofs.Decoding.{Rising, Ends}
 
@@ -69,18 +68,6 @@ pub record LinkWithin (bound : ℕ) (link : Link) : Type 0 where
   pub one : 1 ≤ link .segments
   pub two : link .segments ≤ mostSegments
   pub mate : MateWithin bound (link .mate)
-
--- the listed sequence id of the mate has 16 bits where the unit's has
-pub sequence-within : (bound seqId : ℕ) (m : Mate) → seqId ≤ largest16 → MateWithin bound m → mateSeqId seqId m ≤ largest16
-sequence-within bound seqId Unpaired h w = lit≤ tt
-sequence-within bound seqId (Near delta) h w = h
-sequence-within bound seqId (Far sequence position) h w = w .0
-
--- the listed position is not further than the largest delta above what pos and the symbols can be
-pub position-within : (bound pos : ℕ) (m : Mate) → pos < bound → MateWithin bound m → mappingPos pos m < bound + largest16 / 2
-position-within bound pos Unpaired h w = omega arith
-position-within bound pos (Near delta) h w = omega arith
-position-within bound pos (Far sequence position) h w = let l : position < bound = w .1 in omega arith
 
 module _ (classId bound : ℕ) where
   abbrev pub Below : ℕ → Type 0

@@ -11,12 +11,13 @@ use lib.Seq.{set-out}
 use borrow.Author.Tests.{ltb-true, ltb-false, eqb-true, eqb-false}
 use Rattle.refusal.specs.Numbers.{usedUp, codeOut, valueOut}
 use Rattle.unit.specs.declared.State.{State}
+use Rattle.unit.specs.Unit.{largest16}
 use Rattle.pairing.specs.declared.Link.{Link}
 use Rattle.pairing.specs.declared.Answer.the-variants.{Linked, Refused}
 use Rattle.pairing.specs.declared.Paired.{Paired}
 use Rattle.pairing.specs.Take.{taken, raised, symbolOf}
 use Rattle.pairing.specs.Table60.{Steps, sets, takes, within16, reserved}
-use Rattle.pairing.specs.Pairing.{decode, linkOf, withSymbol, largest16}
+use Rattle.pairing.specs.Pairing.{decode, linkOf, withSymbol}
 use Rattle.pairing.proofs.Taking.{by-test, one-of, There, take-cases, raised-other, raised-same, raised-long}
 
 -- what steps may do

@@ -10,7 +10,7 @@ use borrow.Author.Tests.{lt-ltb}
 use Rattle.unit.specs.declared.State.{State}
 use Rattle.unit.specs.declared.Unit.{Unit}
 use Rattle.unit.specs.State.{subsequences}
-use Rattle.unit.specs.Unit.{classHM, classU, mostSegments}
+use Rattle.unit.specs.Unit.{classHM, classU, mostSegments, largest16}
 use Rattle.pairing.specs.declared.Taken.{Taken}
 use Rattle.pairing.specs.declared.Mate.{Mate}
 use Rattle.pairing.specs.declared.Mate.the-variants.{Unpaired}
@@ -19,12 +19,12 @@ use Rattle.pairing.specs.declared.Answer.the-variants.{Linked}
 use Rattle.pairing.specs.declared.Paired.{Paired}
 use Rattle.pairing.specs.Take.{taken, symbolOf, takeOf}
 use Rattle.pairing.specs.Table60.{Steps, mateSeqId, mappingPos}
-use Rattle.pairing.specs.Pairing.{decode, linkedTo, largest16, recordSteps, pairOf}
-use Rattle.pairing.specs.Reading.{cameTo, recordTakes}
+use Rattle.pairing.specs.Pairing.{decode, linkedTo, recordSteps, pairOf}
+use Rattle.pairing.specs.Reading.{recordTakes}
 use Rattle.pairing.proofs.Taking.{one-of, There}
 use Rattle.pairing.proofs.Decoding.{Rising, Ends, Follows, stays, Told, decode-follows, decode-told, decode-ends}
 use Rattle.pairing.proofs.Cases.{LinkWithin, table60-rising, HM-rising, table60-within, HM-within, Any, Alone, table60-alone, HM-alone}
-use Rattle.pairing.proofs.Reading.{Reads, decode-reads, only-taken, takenIn-up, raisedBy-once, raisedBy-other}
+use Rattle.pairing.proofs.Reading.{Reads, decode-reads, takenIn-up, raisedBy-once, raisedBy-other}
 
 -- a record's steps
 
@@ -59,10 +59,6 @@ module _ (unit : Unit) (symbols counts : List ℕ) (st : State) where
   pub pair-follows : Follows counts st (pairOf unit symbols counts st .state)
   unfolding pairOf
   pair-follows = decode-follows symbols counts st (recordSteps unit) 0 st (record-rising unit) (λ j _. refl) (stays counts st)
-
-  -- the record number is not changed
-  pub pair-number : pairOf unit symbols counts st .state .number ≡ st .number
-  pair-number = pair-follows .number
 
   -- indexes that are not above their counts stay so
   pub pair-within : ((j : ℕ) → taken st j ≤ getD counts j 0) → (j : ℕ) → taken (pairOf unit symbols counts st .state) j ≤ getD counts j 0
@@ -103,7 +99,7 @@ module _ (unit : Unit) (symbols counts : List ℕ) (st : State) where
     unfolding pairOf
     pair-reads = decode-reads symbols counts st (recordSteps unit) 0 st (record-rising unit) (λ j _. refl) link e
 
-    -- a subsequence that it takes from is one further, by the symbol that stood at its index
+    -- a subsequence that it takes from is one further; `pair-reads` says that it is by the symbol that stood at its index
     pub pair-once : length (st .index) ≡ subsequences → (s : ℕ) → List·Memᴰ s (recordTakes unit symbols st) → taken (pairOf unit symbols counts st .state) s ≡ taken st s + 1
     pair-once l s m =
         let there : There symbols counts st s = pair-reads .there s m in
@@ -112,10 +108,6 @@ module _ (unit : Unit) (symbols counts : List ℕ) (st : State) where
     -- any other stays
     pub pair-other : (s : ℕ) → (List·Memᴰ s (recordTakes unit symbols st) → ⊥) → taken (pairOf unit symbols counts st .state) s ≡ taken st s
     pair-other s out = rw (pair-reads .state) (raisedBy-other _ st s out)
-
-  -- the symbols that a record takes, and no others, decide what it takes and what they come to
-  pub pair-only : (others : List ℕ) (other : State) → ((s : ℕ) → List·Memᴰ s (recordTakes unit symbols st) → symbolOf symbols st s ≡ symbolOf others other s) → (cameTo (symbolOf symbols st) (recordSteps unit) ≡ cameTo (symbolOf others other) (recordSteps unit)) × (recordTakes unit symbols st ≡ recordTakes unit others other)
-  pair-only others other agree = only-taken (symbolOf symbols st) (symbolOf others other) (recordSteps unit) agree
 
 -- what the promises admit: two answers that keep one equation are one
 

@@ -5,4 +5,3 @@ pub mod Decoding
 pub mod Cases
 pub mod Reading
 pub mod Laws
-pub mod Examples

@@ -1,18 +1,19 @@
 -- Laws of reading: an accepted record takes each symbol at the index it was given, once and in order. Assumes nothing.
-use mathlib.Core.Path.{_≡_, refl, ap, _∙_}
-use mathlib.Core.Logic.{_⊎_, ⊎-elim}
+use mathlib.Core.Path.{_≡_, refl, _∙_}
+use mathlib.Core.Logic.{⊎-elim}
 use mathlib.Core.List.{List, [], _∷_, List·Memᴰ, List·Memᴰ·head, List·Memᴰ·tail, List·Memᴰ·cases-cons, List·Memᴰ·not-nil}
 use Prim.Native.Nat.{ℕ, _+_, _<_, _≤_}
 use native.Mathlib.Omega.{arith}
 use lib.Dec.{ltb}
 use lib.ListN.{length}
 use Rattle.unit.specs.declared.State.{State}
+use Rattle.unit.specs.Unit.{largest16}
 use Rattle.pairing.specs.declared.Link.{Link}
 use Rattle.pairing.specs.declared.Answer.the-variants.{Linked}
 use Rattle.pairing.specs.declared.Paired.{Paired}
 use Rattle.pairing.specs.Take.{taken, raised, symbolOf}
 use Rattle.pairing.specs.Table60.{Steps, sets, takes, within16, reserved}
-use Rattle.pairing.specs.Pairing.{decode, withSymbol, largest16}
+use Rattle.pairing.specs.Pairing.{decode, withSymbol}
 use Rattle.pairing.specs.Reading.{takenIn, cameTo, raisedBy}
 use Rattle.pairing.proofs.Taking.{by-test, There, take-cases, raised-other, raised-same, raised-long}
 use Rattle.pairing.proofs.Decoding.{Rising, Fresh, fresh-raised}
@@ -62,24 +63,6 @@ module _ (symbols counts : List ℕ) (a : State) where
       let r : Reads b rest link (decode symbols counts a b rest .state) = decode-reads rest n b up fresh link e in
       record { answer = rw l (r .answer); state = r .state; there = r .there })
   decode-reads reserved n b up fresh link = λ e. let z : _≡_ {A = ℕ} 0 1 = cc in absurd (omega arith)
-
--- takenIn and cameTo
-
--- the symbols that the steps take, and no others, decide what they come to
-module _ (f g : ℕ → ℕ) where
-  pub only-taken : (p : Steps) → ((s : ℕ) → List·Memᴰ s (takenIn f p) → f s ≡ g s) → (cameTo f p ≡ cameTo g p) × (takenIn f p ≡ takenIn g p)
-  unfolding cameTo takenIn
-  only-taken (sets d) agree = (refl, refl)
-  only-taken (takes s goOn) agree =
-      let e : f s ≡ g s = agree s (List·Memᴰ·head refl) in
-      let k : (cameTo f (goOn (f s)) ≡ cameTo g (goOn (f s))) × (takenIn f (goOn (f s)) ≡ takenIn g (goOn (f s))) =
-      only-taken (goOn (f s)) (λ j m. agree j (List·Memᴰ·tail m))
-      in
-      (k .0 ∙ ap (λ (v : ℕ). cameTo g (goOn v)) e, ap (λ (l : List ℕ). s ∷ l) (k .1 ∙ ap (λ (v : ℕ). takenIn g (goOn v)) e))
-  only-taken (within16 v rest) agree =
-      let k : (cameTo f rest ≡ cameTo g rest) × (takenIn f rest ≡ takenIn g rest) = only-taken rest agree in
-      (rw (k .0) refl, k .1)
-  only-taken reserved agree = (refl, refl)
 
 -- raisedBy
 

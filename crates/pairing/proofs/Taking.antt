@@ -1,29 +1,17 @@
 -- Laws of `takeOf`: what taking one symbol does to the state. Assumes nothing.
-use mathlib.Core.Path.{_≡_, refl}
-use mathlib.Core.Bool.{Bool, true, false, cond}
+use mathlib.Core.Path.{_≡_}
 use mathlib.Core.List.{List}
 use Prim.Native.Nat.{ℕ, _+_, _<_}
-use native.Mathlib.Omega.{arith}
 use lib.Dec.{leb}
 use lib.ListN.{length, getD, length-set}
 use lib.Seq.{getD-set-same, getD-set-other}
 use borrow.Author.Tests.{leb-false}
+pub use Rattle.frame.proofs.Tests.{cond-of as by-test, one-of}
 use Rattle.unit.specs.declared.State.{State}
 use Rattle.unit.specs.State.{subsequences, symbolPlace}
-use Rattle.pairing.specs.declared.Found.the-variants.{Symbol, UsedUp}
+use Rattle.pairing.specs.declared.Found.the-variants.{Symbol}
 use Rattle.pairing.specs.declared.Taken.{Taken}
 use Rattle.pairing.specs.Take.{taken, raised, symbolOf, noneLeft, takeOf}
-
--- cases
-
--- what holds of both arms of a test holds of the test; the arms know its outcome
-pub by-test : {A : Type 0} (P : A → Type 0) (b : Bool) (x y : A) → (b ≡ true → P x) → (b ≡ false → P y) → P (cond b x y)
-by-test P true x y h k = h refl
-by-test P false x y h k = k refl
-
--- the same where the arms need not know
-pub one-of : {A : Type 0} (P : A → Type 0) (b : Bool) (x y : A) → P x → P y → P (cond b x y)
-one-of P b x y h k = by-test P b x y (λ _. h) (λ _. k)
 
 -- take
 
@@ -44,19 +32,6 @@ module _ (symbols counts : List ℕ) (st : State) (s : ℕ) where
       (λ b. by-test P (leb (getD counts s 0) (taken st s)) _ _ (λ _. none)
       (λ c. by-test P (leb (length symbols) (symbolPlace s (taken st s))) _ _ (λ _. none)
       (λ d. some record { known = leb-false _ _ a; counted = leb-false _ _ b; left = leb-false _ _ c; lent = leb-false _ _ d }))))
-
-  -- a symbol that is taken is the one at the index; it was there, and the state is one further
-  pub take-once : (v : ℕ) → takeOf symbols counts st s .found ≡ Symbol v → There symbols counts st s × ((v ≡ symbolOf symbols st s) × (takeOf symbols counts st s .state ≡ raised st s))
-  take-once v =
-      take-cases (λ t. t .found ≡ Symbol v → There symbols counts st s × ((v ≡ symbolOf symbols st s) × (t .state ≡ raised st s)))
-      (λ e. let z : _≡_ {A = ℕ} 0 1 = cc in absurd (omega arith))
-      (λ there e. (there, ((cc), refl)))
-
-  -- no symbol was left: the state is as it was
-  pub take-none : takeOf symbols counts st s .found ≡ UsedUp → takeOf symbols counts st s .state ≡ st
-  take-none =
-      take-cases (λ t. t .found ≡ UsedUp → t .state ≡ st) (λ e. refl)
-      (λ there e. let z : _≡_ {A = ℕ} 0 1 = cc in absurd (omega arith))
 
 -- raised
 

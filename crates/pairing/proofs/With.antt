@@ -7,13 +7,14 @@ use lib.Dec.{ltb, eqb}
 use borrow.Author.Tests.{lt-ltb, le-ltb, eq-eqb, ne-eqb}
 use Rattle.refusal.specs.Numbers.{usedUp, codeOut, valueOut}
 use Rattle.unit.specs.declared.State.{State}
+use Rattle.unit.specs.Unit.{largest16}
 use Rattle.pairing.specs.declared.Found.the-variants.{Symbol, UsedUp}
 use Rattle.pairing.specs.declared.Taken.{Taken}
 use Rattle.pairing.specs.declared.Mate.{Mate}
 use Rattle.pairing.specs.declared.Paired.{Paired}
 use Rattle.pairing.specs.Take.{takeOf}
 use Rattle.pairing.specs.Table60.{Steps, sets, takes, within16, reserved}
-use Rattle.pairing.specs.Pairing.{decode, linkedTo, refusedBy, largest16}
+use Rattle.pairing.specs.Pairing.{decode, linkedTo, refusedBy}
 
 module _ (x : Paired) (symbols counts : List ℕ) (back st : State) where
   -- the end of a case

@@ -2,4 +2,3 @@ pub mod Take
 pub mod Table60
 pub mod Pairing
 pub mod Reading
-pub mod Examples

@@ -1,13 +1,13 @@
 -- Document 01, "Pairing (Table 60)": what the pair symbols of a record say, with refusals 5, 6 and 7.
 -- Assumes nothing.
 use Prim.Native.Nat.{ℕ}
-use mathlib.Core.List.{List, [], _∷_}
+use mathlib.Core.List.{List}
 use mathlib.Core.Bool.{cond}
 use lib.Dec.{ltb, eqb}
 use Rattle.refusal.specs.Numbers.{fine, usedUp, codeOut, valueOut}
 use Rattle.unit.specs.declared.State.{State}
 use Rattle.unit.specs.declared.Unit.{Unit}
-use Rattle.unit.specs.Unit.{classHM, mostSegments}
+use Rattle.unit.specs.Unit.{classHM, mostSegments, largest16}
 use Rattle.pairing.specs.declared.Found.{Found}
 use Rattle.pairing.specs.declared.Found.the-variants.{Symbol, UsedUp}
 use Rattle.pairing.specs.declared.Taken.{Taken}
@@ -17,11 +17,7 @@ use Rattle.pairing.specs.declared.Answer.{Answer}
 use Rattle.pairing.specs.declared.Answer.the-variants.{Linked, Refused}
 use Rattle.pairing.specs.declared.Paired.{Paired}
 use Rattle.pairing.specs.Take.{takeOf}
-use Rattle.pairing.specs.Table60.{Steps, sets, takes, within16, reserved, Decoded, mateSeqId, mappingPos, HM-same-rec, table60}
-
--- the largest value of 16 bits: refusal 7 is for a value taken from subsequence 1, 4 or 5 above it
-abbrev pub largest16 : ℕ
-largest16 = 65535
+use Rattle.pairing.specs.Table60.{Steps, sets, takes, within16, reserved, Decoded, HM-same-rec, table60}
 
 -- Answers
 
@@ -34,11 +30,6 @@ foundNumber UsedUp = usedUp
 abbrev pub answerNumber : Answer → ℕ
 answerNumber (Linked link) = fine
 answerNumber (Refused n) = n
-
--- document 01's values of a link, in the order of the 04 line: read1First, splitMate, segments in this record, mate sequence id, mate position
-abbrev pub listed : ℕ → ℕ → Link → List ℕ
-listed seqId pos link =
-    link .first ∷ link .split ∷ link .segments ∷ mateSeqId seqId (link .mate) ∷ mappingPos pos (link .mate) ∷ []
 
 -- the link of what a decoding case leaves
 abbrev pub linkOf : Decoded → Link
@@ -72,7 +63,7 @@ decode symbols counts back st (within16 v rest) =
     cond (ltb largest16 v) (refusedBy valueOut back) (decode symbols counts back st rest)
 decode symbols counts back st reserved = refusedBy codeOut back
 
--- the steps of a record: one template segment (a unit has 1 or 2) takes nothing; HM takes no code; every other class takes a code from subsequence 0, and its case follows.
+-- the steps of a record: one template segment (a unit has 1 or 2) takes nothing and keeps the page's first two lines, splitMate[0][0] = 0 and read1First = 1; HM takes no code; every other class takes a code from subsequence 0, and its case follows.
 -- Where the page differs, document 01 decides: the page lets HM take its value from a template of one segment too (a unit of class HM has two);
 -- it steps over a code of 7 or more in silence; and it raises j8,0 after the case, which does not look at it.
 unfoldable pub recordSteps : Unit → Steps

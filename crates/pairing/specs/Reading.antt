@@ -7,11 +7,12 @@ use lib.Dec.{ltb}
 use Rattle.refusal.specs.Numbers.{codeOut, valueOut}
 use Rattle.unit.specs.declared.State.{State}
 use Rattle.unit.specs.declared.Unit.{Unit}
+use Rattle.unit.specs.Unit.{largest16}
 use Rattle.pairing.specs.declared.Answer.{Answer}
 use Rattle.pairing.specs.declared.Answer.the-variants.{Linked, Refused}
 use Rattle.pairing.specs.Take.{raised, symbolOf}
 use Rattle.pairing.specs.Table60.{Steps, sets, takes, within16, reserved}
-use Rattle.pairing.specs.Pairing.{linkOf, largest16, recordSteps}
+use Rattle.pairing.specs.Pairing.{linkOf, recordSteps}
 
 -- the subsequences that the steps take a symbol of, in order, where `next N` is the standard's subsequenceN at j8,N
 unfoldable pub takenIn : (ℕ → ℕ) → Steps → List ℕ

@@ -1,6 +1,6 @@
 // The pair descriptor's symbols, and what they say of a record's mate (Table 60).
 ghost use mathlib.Core.Path.{_≡_};
-ghost use Rattle.pairing.specs.Take.{takeOf};
+ghost use Rattle.pairing.specs.Take.{noneLeft, takeOf};
 ghost use Rattle.pairing.specs.Table60.{mateSeqId, mappingPos};
 ghost use Rattle.pairing.specs.Pairing.{pairOf};
 use unit::State;
@@ -20,36 +20,34 @@ pub struct Taken {
     pub state: State,
 }
 
+// No symbol is left, and the state as it was given.
+fn none_left(state: State) -> Taken
+    ensures { λ r. ⌜ r ≡ noneLeft state ⌝ }
+{
+    Taken {
+        found: Found::UsedUp,
+        state,
+    }
+}
+
 // The next symbol of subsequence s and the state with its index one higher; or the state as it was given.
 pub fn take(symbols: &[u32], counts: &[u32], state: State, s: usize) -> Taken
     ensures { λ r. ⌜ r ≡ takeOf (now (symbols .entry)) (now (counts .entry)) state s ⌝ }
 {
     if State::SUBSEQUENCES <= s {
-        return Taken {
-            found: Found::UsedUp,
-            state,
-        };
+        return none_left(state);
     }
     if counts.len() <= s {
-        return Taken {
-            found: Found::UsedUp,
-            state,
-        };
+        return none_left(state);
     }
     let k = state.index[s];
     let n = counts[s];
     if n <= k {
-        return Taken {
-            found: Found::UsedUp,
-            state,
-        };
+        return none_left(state);
     }
     let at = s * State::SYMBOLS as usize + k as usize;
     if symbols.len() <= at {
-        return Taken {
-            found: Found::UsedUp,
-            state,
-        };
+        return none_left(state);
     }
     let v = symbols[at];
     let mut next = state;
@@ -79,9 +77,6 @@ pub struct Link {
 }
 
 impl Link {
-    // The largest value of 16 bits: no value used from subsequence 1, 4 or 5 is above it.
-    pub const LARGEST: u32 = 65_535;
-
     // The listed sequence id of the mate.
     pub fn mate_sequence(self, unit: Unit) -> u32
         ensures { λ r. ⌜ r ≡ mateSeqId (unit .sequence) (self .mate) ⌝ }

@@ -67,7 +67,7 @@ pub(crate) fn half_mapped(symbols: &[u32], counts: &[u32], state: State) -> Pair
     let Found::Symbol(v) = found else {
         return refused(refusal::USED_UP, state);
     };
-    if Link::LARGEST < v {
+    if Unit::LARGEST16 < v {
         return refused(refusal::VALUE_OUT, state);
     }
     let first = read_first(v);
@@ -87,7 +87,7 @@ fn same_rec(class: u32, symbols: &[u32], counts: &[u32], state: State, back: Sta
     let Found::Symbol(v) = found else {
         return refused(refusal::USED_UP, back);
     };
-    if Link::LARGEST < v {
+    if Unit::LARGEST16 < v {
         return refused(refusal::VALUE_OUT, back);
     }
     let first = read_first(v);
@@ -140,7 +140,7 @@ fn diff_ref_seq(
     if class == Unit::U {
         return split(class, sequence, symbols, counts, next, back, q, first);
     }
-    if Link::LARGEST < sequence {
+    if Unit::LARGEST16 < sequence {
         return refused(refusal::VALUE_OUT, back);
     }
     split(class, sequence, symbols, counts, next, back, q, first)

@@ -4,16 +4,15 @@ use mathlib.Core.Path.{_≡_}
 use mathlib.Core.Bool.{true, false}
 use mathlib.Core.List.{List}
 use Prim.Native.Nat.{ℕ, _+_, _<_, _≤_}
-use native.Mathlib.Omega.{arith}
 use native.Mathlib.Numerals.{add-one}
 use lib.ListN.{length, getD, drop, drop-of-length-le}
 use lib.Seq.{drop-cons}
 use borrow.Author.Tests.{lt-ltb, le-ltb, le-leb, lt-leb}
 use Rattle.refusal.specs.Numbers.{fine, missing}
-use Rattle.unit.specs.State.{subsequences, mostSymbols}
+use Rattle.unit.specs.State.{mostSymbols, within}
 use Rattle.unit.specs.declared.Unit.{Unit}
 use Rattle.unit.specs.declared.State.{State}
-use Rattle.plan.specs.Lent.{countsOut, indexesOut, stateRefusal}
+use Rattle.plan.specs.Lent.{countsOut, stateRefusal}
 
 -- ---- the counts
 
@@ -30,21 +29,6 @@ module _ (counts : List ℕ) (i : ℕ) where
   unfolding countsOut
   counts-done h = rw (drop-of-length-le counts h)
 
--- ---- the indexes, side by side with the counts
-
-module _ (index counts : List ℕ) (ks : length index ≡ subsequences) (ns : length counts ≡ subsequences) (i : ℕ) where
-  pub indexes-on : i < subsequences → getD index i 0 ≤ getD counts i 0 → indexesOut (drop i index) (drop i counts) ≡ indexesOut (drop (i + 1) index) (drop (i + 1) counts)
-  unfolding indexesOut
-  indexes-on h k = rw (drop-cons index i 0 (omega arith), drop-cons counts i 0 (omega arith), add-one, le-ltb _ _ k)
-
-  pub indexes-found : i < subsequences → getD counts i 0 < getD index i 0 → indexesOut (drop i index) (drop i counts) ≡ true
-  unfolding indexesOut
-  indexes-found h k = rw (drop-cons index i 0 (omega arith), drop-cons counts i 0 (omega arith), lt-ltb _ _ k)
-
-  pub indexes-done : subsequences ≤ i → indexesOut (drop i index) (drop i counts) ≡ false
-  unfolding indexesOut
-  indexes-done h = rw (drop-of-length-le index {i = i} (omega arith))
-
 -- ---- the state
 
 module _ (u : Unit) (counts : List ℕ) (state : State) where
@@ -52,10 +36,10 @@ module _ (u : Unit) (counts : List ℕ) (state : State) where
   unfolding stateRefusal
   number-out h = rw (le-leb _ _ h)
 
-  pub index-out : state .number < u .records → indexesOut (state .index) counts ≡ true → stateRefusal u counts state ≡ missing
+  pub index-out : state .number < u .records → within (state .index) counts ≡ false → stateRefusal u counts state ≡ missing
   unfolding stateRefusal
   index-out h e = rw (lt-leb _ _ h, e)
 
-  pub state-fine : state .number < u .records → indexesOut (state .index) counts ≡ false → stateRefusal u counts state ≡ fine
+  pub state-fine : state .number < u .records → within (state .index) counts ≡ true → stateRefusal u counts state ≡ fine
   unfolding stateRefusal
   state-fine h e = rw (lt-leb _ _ h, e)

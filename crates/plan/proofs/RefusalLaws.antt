@@ -10,15 +10,11 @@ use lib.ListN.{length, getD}
 use Rattle.refusal.specs.Numbers.{fine, noRoom}
 use Rattle.frame.specs.Hex.{unhex}
 use Rattle.frame.specs.Line.{lineOf}
-use Rattle.frame.specs.Field.{fieldAt, afterField}
-use Rattle.frame.specs.declared.line.Line.{Line}
-use Rattle.frame.specs.declared.line.Line.the-variants.{Frame, Malformed}
+use Rattle.frame.specs.Field.{fieldAt}
 use Rattle.frame.specs.declared.field.Cursor.{Cursor}
-use Rattle.frame.specs.declared.field.Field.{Field}
-use Rattle.frame.specs.declared.field.Field.the-variants as field
 use Rattle.unit.specs.Kinds.{kindRecord}
-use Rattle.frame.specs.Steps.{afterLine}
-use Rattle.unit.specs.State.{subsequences, tableLength}
+use Rattle.frame.proofs.StepLaws.{by-line, by-field}
+use Rattle.unit.specs.State.{subsequences, tableLength, within}
 use Rattle.alphabet.specs.Table35.{sizeOf}
 use Rattle.unit.specs.Unit.{classP, classI, classHM, classU, lastAlphabet, mostSegments, mostSequence, mostRecords, mostReference, leastSegments, unitRefusal}
 use Rattle.unit.specs.declared.Unit.{Unit as UnitOf}
@@ -59,7 +55,7 @@ use Rattle.segment.specs.declared.part.Part.{Part}
 use Rattle.segment.specs.declared.part.Part.the-variants.{Absent}
 use Rattle.segment.specs.declared.part.PartRead.{PartRead}
 use Rattle.segment.specs.declared.part.PartRead.the-variants as part
-use Rattle.plan.specs.Lent.{countsOut, indexesOut, stateRefusal, lentRefusal}
+use Rattle.plan.specs.Lent.{countsOut, stateRefusal, lentRefusal}
 use Rattle.plan.specs.Plan.{plan, finished, firstPart, secondPart, afterSecond, fromSecond, afterFirst, fromFirst, fromPos, settled, afterAnswer, fromKind, planOf}
 use Rattle.plan.specs.declared.read.Plan.{Plan}
 use Rattle.plan.specs.declared.read.Planned.{Planned}
@@ -104,14 +100,6 @@ abbrev EarlyReading : Reading → Type 0
 EarlyReading x = EarlyPlan (x .planned)
 
 -- ---- a step keeps to it where each way it can go does
-
-by-line : {X : Type 0} (P : X → Type 0) (x : Line) (bad go : X) → P bad → P go → P (afterLine bad x go)
-by-line P (Frame n) bad go h k = k
-by-line P Malformed bad go h k = h
-
-by-field : {X : Type 0} (P : X → Type 0) (x : Field) (short : X) (f : ℕ → Cursor → X) → P short → ((v : ℕ) (c : Cursor) → P (f v c)) → P (afterField short x f)
-by-field P (field.Value v c) short f h k = k v c
-by-field P field.Short short f h k = h
 
 by-checked : {X : Type 0} (P : X → Type 0) (refused : ℕ → X) (x : Checked) (f : ℕ → Cursor → X) → ((n : ℕ) → Early n → P (refused n)) → EarlyField x → ((v : ℕ) (c : Cursor) → P (f v c)) → P (afterChecked refused x f)
 by-checked P refused (checked.Value v c) f h e k = k v c
@@ -353,7 +341,7 @@ unit-early u =
 state-early : (u : UnitOf) (counts : List ℕ) (state : State) → Early (stateRefusal u counts state)
 unfolding stateRefusal
 state-early u counts state =
-    one-of Early (leb (u .records) (state .number)) _ _ (lit< tt) (one-of Early (indexesOut (state .index) counts) _ _ (lit< tt) (lit< tt))
+    one-of Early (leb (u .records) (state .number)) _ _ (lit< tt) (one-of Early (within (state .index) counts) _ _ (lit< tt) (lit< tt))
 
 pub lent-early : (u : UnitOf) (bases places : ℕ) (counts : List ℕ) (state : State) → Early (lentRefusal u bases places counts state)
 unfolding lentRefusal

@@ -1,7 +1,7 @@
 -- The laws of what is lent and was not refused: the unit's values, the table's shape, and a state inside the unit.
 -- Assumes nothing.
 use mathlib.Core.Path.{_≡_, sym}
-use mathlib.Core.Bool.{Bool, false, cond}
+use mathlib.Core.Bool.{Bool, true, false, cond}
 use mathlib.Core.List.{List, [], _∷_}
 use Prim.Native.Nat.{ℕ, zero, suc, _<_, _≤_}
 use native.Mathlib.Omega.{arith}
@@ -11,12 +11,13 @@ use lib.ListN.{length, getD}
 use Rattle.refusal.specs.Numbers.{fine, misframed, countOut, missing}
 use Rattle.frame.proofs.HexLaws.{by-test, false-true}
 use Rattle.unit.specs.Unit.{mostReference, unitRefusal}
-use Rattle.unit.specs.State.{subsequences, mostSymbols, tableLength}
+use Rattle.unit.specs.State.{subsequences, mostSymbols, tableLength, within}
 use Rattle.unit.specs.declared.Unit.{Unit}
 use Rattle.unit.specs.declared.State.{State}
 use Rattle.frame.proofs.StepLaws.{past-refusal, past-match}
 use Rattle.unit.proofs.ValidLaws.{UnitValid, valid-is}
-use Rattle.plan.specs.Lent.{countsOut, indexesOut, stateRefusal, lentRefusal}
+use Rattle.unit.proofs.StateLaws.{within-each}
+use Rattle.plan.specs.Lent.{countsOut, stateRefusal, lentRefusal}
 
 -- no count is above the limit
 counts-within : (counts : List ℕ) → countsOut counts ≡ false → (i : ℕ) → getD counts i 0 ≤ mostSymbols
@@ -24,14 +25,6 @@ unfolding countsOut
 counts-within [] e i = lit≤ tt
 counts-within (n ∷ ns) e zero = by-test (ltb mostSymbols n) (λ t. false-true (sym (simp t at e))) (λ t. ltb-false mostSymbols n t)
 counts-within (n ∷ ns) e (suc i) = by-test (ltb mostSymbols n) (λ t. false-true (sym (simp t at e))) (λ t. counts-within ns (simp t at e) i)
-
--- no index is above its count
-indexes-within : (index counts : List ℕ) → indexesOut index counts ≡ false → (i : ℕ) → getD index i 0 ≤ getD counts i 0
-unfolding indexesOut
-indexes-within [] counts e i = omega arith
-indexes-within (k ∷ ks) [] e i = false-true (sym e)
-indexes-within (k ∷ ks) (n ∷ ns) e zero = by-test (ltb n k) (λ t. false-true (sym (simp t at e))) (λ t. ltb-false n k t)
-indexes-within (k ∷ ks) (n ∷ ns) e (suc i) = by-test (ltb n k) (λ t. false-true (sym (simp t at e))) (λ t. indexes-within ks ns (simp t at e) i)
 
 -- a flag that refuses and is not set
 past-flag : (b : Bool) (bad x y : ℕ) → (bad ≡ y → ⊥) → cond b bad x ≡ y → (b ≡ false) × (x ≡ y)
@@ -56,7 +49,7 @@ lent-taken u bases places counts state q =
     let c = past-match countOut (λ z. omega arith) (length counts) subsequences _ (b .1) in
     let d = past-flag (countsOut counts) countOut _ fine (λ z. omega arith) (c .1) in
     let f = past-flag (leb (u .records) (state .number)) missing _ fine (λ z. omega arith) (d .1) in
-    let g = past-flag (indexesOut (state .index) counts) missing _ fine (λ z. omega arith) (f .1) in
+    let g : within (state .index) counts ≡ true = by-test (within (state .index) counts) (λ w. w) (λ w. absurd (let z : missing ≡ fine = simp w at (f .1) in omega arith)) in
     record {
       unit = valid-is u (eqb-true _ _ t);
       reference = a .0;
@@ -64,6 +57,6 @@ lent-taken u bases places counts state q =
       counts-all = c .0;
       counts-fit = counts-within counts (d .0);
       in-count = leb-false _ _ (f .0);
-      within = indexes-within (state .index) counts (g .0);
+      within = within-each (state .index) counts g;
     })
     (λ t. absurd (eqb-false _ _ t (simp t at q)))

@@ -3,8 +3,7 @@ use unit::State;
 use unit::Unit;
 ghost use mathlib.Core.Path.{_≡_};
 ghost use lib.ListN.{length};
-ghost use Rattle.unit.specs.State.{subsequences};
-ghost use Rattle.plan.specs.Lent.{countsOut, indexesOut, stateRefusal, lentRefusal};
+ghost use Rattle.plan.specs.Lent.{countsOut, stateRefusal, lentRefusal};
 
 // Whether a count is above its limit.
 fn counts_out(counts: &[u32]) -> bool
@@ -13,21 +12,6 @@ fn counts_out(counts: &[u32]) -> bool
     let mut i: usize = 0;
     while i < counts.len() {
         if State::SYMBOLS < counts[i] {
-            return true;
-        }
-        i += 1;
-    }
-    false
-}
-
-// Whether an index is above its count.
-fn indexes_out(index: [u32; State::SUBSEQUENCES], counts: &[u32]) -> bool
-    requires { ⌜ length (now counts) ≡ subsequences ⌝ }
-    ensures { λ r. ⌜ r ≡ indexesOut index (now (counts .entry)) ⌝ }
-{
-    let mut i: usize = 0;
-    while i < State::SUBSEQUENCES {
-        if counts[i] < index[i] {
             return true;
         }
         i += 1;
@@ -66,14 +50,12 @@ pub fn refusal_of(
 
 // Refusal 14 where the state is not one of this unit and these counts, else 0.
 fn state_refusal(unit: Unit, counts: &[u32], state: State) -> u32
-    requires { ⌜ length (now counts) ≡ subsequences ⌝ }
     ensures { λ r. ⌜ r ≡ stateRefusal unit (now (counts .entry)) state ⌝ }
 {
     if unit.records <= state.number {
         return refusal::MISSING;
     }
-    let index = state.index;
-    if indexes_out(index, counts) {
+    if !state.within(counts) {
         return refusal::MISSING;
     }
     0

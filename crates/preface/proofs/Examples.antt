@@ -5,9 +5,8 @@ use mathlib.Core.List.{List, [], _∷_, _++_, map}
 use Prim.Native.Nat.{ℕ}
 use Rattle.refusal.specs.Numbers.{fine, malformed, misframed, unitOut, countOut, noRoom}
 use Rattle.frame.specs.Hex.{isDigit, glyph, nib, hexOf, unhex, allDigits}
-use Rattle.frame.specs.Line.{lineWithin}
+use Rattle.frame.specs.Line.{lineWithin, lineOfBytes}
 use Rattle.frame.specs.Field.{bigAt, fieldAt}
-use Rattle.frame.proofs.LineLaws.{lineOfBytes}
 use Rattle.unit.specs.Unit.{classM, leastSegments}
 use Rattle.unit.specs.State.{tableLength}
 use Rattle.preface.specs.UnitLine.{unitEnds, unitTemplate, unitClass, unitLine, unitNumber}

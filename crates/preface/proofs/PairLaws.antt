@@ -1,21 +1,18 @@
 -- The laws of a pair line: its symbols one by one, and the table after it.
 -- Assumes nothing.
 use mathlib.Core.Path.{_≡_, refl, sym, ap, _∙_}
-use mathlib.Core.Logic.{_⊎_, ⊎-elim}
 use mathlib.Core.List.{List, [], _∷_}
-use Prim.Native.Nat.{ℕ, zero, suc, _+_, _*_, _-_, _/_, _^_, _<_, _≤_}
+use Prim.Native.Nat.{ℕ, zero, suc, _+_, _*_, _-_, _/_, _<_, _≤_}
 use native.Mathlib.Omega.{arith}
-use borrow.Author.Tests.{lt-ltb, le-ltb, eq-eqb}
-use lib.ListN.{length, getD}
+use borrow.Author.Tests.{lt-ltb, le-ltb, eq-eqb, ne-eqb}
+use lib.ListN.{length}
 use Rattle.refusal.specs.Numbers.{countOut}
 use Rattle.frame.specs.Hex.{unhex}
 use Rattle.frame.specs.Line.{lineOf}
 use Rattle.frame.specs.Field.{bigAt}
-use Rattle.frame.specs.declared.field.Cursor.{Cursor}
-use Rattle.frame.proofs.HexLaws.{byte-lt, length-unhex}
-use Rattle.frame.proofs.FieldLaws.{bigAt-lt}
+use Rattle.frame.proofs.HexLaws.{length-unhex}
 use Rattle.frame.proofs.StepLaws.{past-line, past-field, past-refusal, past-limit, past-match}
-use Rattle.preface.proofs.StoreLaws.{Left, left-start, length-stored, stored-inside, stored-before, stored-behind}
+use Rattle.preface.proofs.StoreLaws.{Left, left-start, length-stored}
 use Rattle.unit.specs.Kinds.{kindPair}
 use Rattle.frame.specs.Steps.{storedAt}
 use Rattle.unit.specs.State.{mostSymbols, subsequences, tableLength, symbolPlace}
@@ -29,19 +26,6 @@ pub length-symbols : (n : ℕ) (s : List ℕ) (at : ℕ) → length (symbolsAt n
 unfolding symbolsAt
 length-symbols zero s at = refl
 length-symbols (suc n) s at = ap suc (length-symbols n s (at + symbolBytes))
-
--- symbol k is the number at its place
-pub symbol-at : (n : ℕ) (s : List ℕ) (at k : ℕ) → k < n → getD (symbolsAt n s at) k 0 ≡ bigAt symbolBytes s (at + symbolBytes * k)
-unfolding symbolsAt
-symbol-at zero s at k h = absurd (omega arith)
-symbol-at (suc n) s at zero h = let e : at + symbolBytes * 0 ≡ at = omega arith in rw e
-symbol-at (suc n) s at (suc k) h =
-    let e : at + symbolBytes * suc k ≡ at + symbolBytes + symbolBytes * k = omega arith in
-    rw e (symbol-at n s (at + symbolBytes) k (omega arith))
-
--- and fits its four bytes
-pub symbol-fits : (n : ℕ) (l : List ℕ) (at k : ℕ) → k < n → getD (symbolsAt n (unhex l) at) k 0 < 256 ^ symbolBytes
-symbol-fits n l at k h = rw (symbol-at n (unhex l) at k h) (bigAt-lt symbolBytes (unhex l) (at + symbolBytes * k) (byte-lt l))
 
 -- room for so many symbols is room for them
 pub symbols-fit : (n : ℕ) (s : List ℕ) (at p : ℕ) {m : ℕ} → p + n ≤ m → p + length (symbolsAt n s at) ≤ m
@@ -69,27 +53,19 @@ symbols-start n s t p =
 
 -- ---- the symbols that a count asks for
 
-module _ (l : List ℕ) (count : ℕ) (c : Cursor) where
-  pub count-above : mostSymbols < count → Refused countOut ≡ pairSymbols (unhex l) count c
+module _ (l : List ℕ) (count at : ℕ) where
+  pub count-above : mostSymbols < count → Refused countOut ≡ pairSymbols (unhex l) count at
   unfolding pairSymbols
   count-above h = simp (lt-ltb mostSymbols count h)
 
-  pub symbols-short : count ≤ mostSymbols → length l / 2 < c .at + symbolBytes * count → pairMisframed ≡ pairSymbols (unhex l) count c
+  -- too few symbols, or bytes left over
+  pub symbols-other : count ≤ mostSymbols → (at + symbolBytes * count ≡ length l / 2 → ⊥) → pairMisframed ≡ pairSymbols (unhex l) count at
   unfolding pairSymbols
-  symbols-short h k = simp (le-ltb mostSymbols count h, length-unhex, lt-ltb _ _ k)
+  symbols-other h k = simp (le-ltb mostSymbols count h, length-unhex, ne-eqb _ _ k)
 
-  pub symbols-over : count ≤ mostSymbols → c .at + symbolBytes * count < length l / 2 → pairMisframed ≡ pairSymbols (unhex l) count c
+  pub symbols-just : count ≤ mostSymbols → at + symbolBytes * count ≡ length l / 2 → Count count ≡ pairSymbols (unhex l) count at
   unfolding pairSymbols
-  symbols-over h k =
-      let n : c .at + symbolBytes * count ≤ length l / 2 = omega arith in
-      simp (le-ltb mostSymbols count h, length-unhex, le-ltb _ _ n, lt-ltb _ _ k)
-
-  pub symbols-just : count ≤ mostSymbols → c .at + symbolBytes * count ≡ length l / 2 → Count count ≡ pairSymbols (unhex l) count c
-  unfolding pairSymbols
-  symbols-just h e =
-      let n : c .at + symbolBytes * count ≤ length l / 2 = omega arith in
-      let m : length l / 2 ≤ c .at + symbolBytes * count = omega arith in
-      simp (le-ltb mostSymbols count h, length-unhex, le-ltb _ _ n, le-ltb _ _ m)
+  symbols-just h e = simp (le-ltb mostSymbols count h, length-unhex, eq-eqb _ _ e)
 
 -- ---- the whole line
 
@@ -105,14 +81,13 @@ pub record IsPair (line : List ℕ) (number n : ℕ) : Type 0 where
   pub count : bigAt 2 (unhex line) 2 ≡ n
 
 -- the symbols behind the count
-symbols-counted : (s : List ℕ) (count : ℕ) (c : Cursor) (n : ℕ) → pairSymbols s count c ≡ Count n → (n ≤ mostSymbols) × (length s ≡ c .at + symbolBytes * n) × (count ≡ n)
+symbols-counted : (s : List ℕ) (count at n : ℕ) → pairSymbols s count at ≡ Count n → (n ≤ mostSymbols) × (length s ≡ at + symbolBytes * n) × (count ≡ n)
 unfolding pairSymbols
-symbols-counted s count c n e =
+symbols-counted s count at n e =
     let a = past-refusal _ never mostSymbols count _ e in
-    let b = past-refusal _ never (length s) (c .at + symbolBytes * count) _ (a .1) in
-    let d = past-refusal _ never (c .at + symbolBytes * count) (length s) _ (b .1) in
-    let q : count ≡ n = cc (d .1) in
-    (rw (← q) (a .0), rw (← q) (omega arith), q)
+    let b = past-match _ never (at + symbolBytes * count) (length s) _ (a .1) in
+    let q : count ≡ n = cc (b .1) in
+    (rw (← q) (a .0), rw (← q) (sym (b .0)), q)
 
 pub pair-counted : (line : List ℕ) (number n : ℕ) → Count n ≡ pairCount line number → IsPair line number n
 unfolding pairCount
@@ -169,22 +144,6 @@ module _ (line : List ℕ) (number n : ℕ) (t : List ℕ) (e : Count n ≡ pair
   table-is : tableAfter line number t ≡ storedAt t (symbolPlace number 0) (symbolsAt n (unhex line) pairHead)
   unfolding tableAfter tableBy
   table-is = rw (← e)
-
-  -- symbol k stands at its place
-  pub table-symbol : (k : ℕ) → k < n → getD (tableAfter line number t) (symbolPlace number k) 0 ≡ bigAt symbolBytes (unhex line) (pairHead + symbolBytes * k)
-  table-symbol k h =
-      let p : symbolPlace number k ≡ symbolPlace number 0 + k = omega arith in
-      let vs = symbolsAt n (unhex line) pairHead in
-      rw (table-is, p)
-      (stored-inside t (symbolPlace number 0) vs k (omega (arith, row-fits)) (rw length-symbols h) ∙ symbol-at n (unhex line) pairHead k h)
-
-  -- every other place holds what it held
-  pub table-other : (i : ℕ) → (i < symbolPlace number 0) ⊎ (symbolPlace number n ≤ i) → getD (tableAfter line number t) i 0 ≡ getD t i 0
-  table-other i =
-      let vs = symbolsAt n (unhex line) pairHead in
-      ⊎-elim
-      (λ h. rw table-is (stored-before t (symbolPlace number 0) vs i (omega (arith, row-fits)) h))
-      (λ h. rw table-is (stored-behind t (symbolPlace number 0) vs i row-fits (rw length-symbols (omega arith))))
 
 -- the table keeps its length, whatever the line says
 pub length-table : (line : List ℕ) (number : ℕ) (t : List ℕ) → length (tableAfter line number t) ≡ length t

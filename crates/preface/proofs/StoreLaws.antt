@@ -2,11 +2,11 @@
 -- Assumes nothing.
 use mathlib.Core.Path.{_≡_, refl, sym, ap, _∙_}
 use mathlib.Core.List.{List, [], _∷_, _++_, append-assoc}
-use Prim.Native.Nat.{ℕ, _+_, _-_, _<_, _≤_}
+use Prim.Native.Nat.{ℕ, _+_, _<_, _≤_}
 use native.Mathlib.Numerals.{add-one}
 use native.Mathlib.Omega.{arith}
 use lib.ListN.{length, take, drop, getD, set, length-append, length-set, List·getD-append}
-use lib.Seq.{sets, sets-eq, length-sets, length-take-le, getD-append-add, getD-take, getD-drop, take-at}
+use lib.Seq.{sets, sets-eq, length-sets, length-take-le, getD-append-add, getD-take, take-at}
 use Rattle.frame.specs.Steps.{storedAt}
 
 -- ---- a loop that stores: what is left to store, from here, comes to the same as the whole from the start
@@ -53,22 +53,12 @@ stored-inside t at vs k h l =
     ∙ getD-append-add (take at t) (vs ++ drop (at + length vs) t) k 0
     ∙ List·getD-append vs (drop (at + length vs) t) 0 k l)
 
--- and every other place holds what it held
+-- and every place before them holds what it held
 pub stored-before : (t : List ℕ) (at : ℕ) (vs : List ℕ) (i : ℕ) → at ≤ length t → i < at → getD (storedAt t at vs) i 0 ≡ getD t i 0
 unfolding storedAt
 stored-before t at vs i h l =
     rw append-assoc
     (List·getD-append (take at t) (vs ++ drop (at + length vs) t) 0 i (rw (length-take-le at t h) l) ∙ getD-take at t i 0 l)
-
-pub stored-behind : (t : List ℕ) (at : ℕ) (vs : List ℕ) (i : ℕ) → at + length vs ≤ length t → at + length vs ≤ i → getD (storedAt t at vs) i 0 ≡ getD t i 0
-unfolding storedAt
-stored-behind t at vs i h l =
-    let n : length (take at t ++ vs) ≡ at + length vs = length-append (take at t) vs ∙ rw (length-take-le at t (omega arith)) in
-    let e : i ≡ at + length vs + (i - (at + length vs)) = omega arith in
-    ap (λ (j : ℕ). getD (take at t ++ vs ++ drop (at + length vs) t) j 0) (e ∙ rw n)
-    ∙ getD-append-add (take at t ++ vs) (drop (at + length vs) t) (i - (at + length vs)) 0
-    ∙ getD-drop (at + length vs) t (i - (at + length vs)) 0
-    ∙ ap (λ (j : ℕ). getD t j 0) (sym e)
 
 -- what is there then, up to the last stored value
 pub take-stored : (t : List ℕ) (at : ℕ) (vs : List ℕ) → at ≤ length t → take (at + length vs) (storedAt t at vs) ≡ take at t ++ vs

@@ -1,20 +1,20 @@
 -- The laws of the unit line: its bytes, what an accepted line is, and that a unit's line is read back as the unit.
 -- Assumes nothing.
-use mathlib.Core.Path.{_≡_, sym, ap, _∙_}
-use mathlib.Core.List.{List, [], _∷_, _++_, append-assoc, append-nil}
+use mathlib.Core.Path.{_≡_, sym, _∙_}
+use mathlib.Core.List.{List, [], _++_, append-assoc, append-nil}
 use Prim.Native.Nat.{ℕ, _+_, _*_, _^_, _<_, _≤_}
 use native.Mathlib.Omega.{arith}
 use borrow.Author.Tests.{le-ltb}
 use lib.Dec.{lit<}
 use lib.ListN.{length, length-append, drop-of-length-le}
-use Rattle.refusal.specs.Numbers.{fine, unitOut}
-use Rattle.frame.specs.Line.{lineDigits, lineOf}
+use Rattle.refusal.specs.Numbers.{fine}
+use Rattle.frame.specs.Line.{lineDigits, lineOf, lineOfBytes}
 use Rattle.frame.specs.Field.{bigAt}
 use Rattle.frame.specs.Hex.{unhex, be, Bytes}
 use Rattle.writing.specs.Lay.{Laid}
 use Rattle.frame.proofs.HexLaws.{byte-lt, length-be, bytes-be, bytes-append}
 use Rattle.frame.proofs.FieldLaws.{bigAt-lt}
-use Rattle.frame.proofs.LineLaws.{lineOfBytes, unhex-line, line-is-frame, frame-is-line}
+use Rattle.frame.proofs.LineLaws.{unhex-line, line-is-frame, frame-is-line}
 use Rattle.writing.proofs.LayLaws.{laid-as, laid-then, laid-room}
 use Rattle.unit.specs.Kinds.{kindUnit}
 use Rattle.unit.specs.Unit.{classP, classU, lastAlphabet, mostSegments, mostRecords, leastSegments, unitRefusal}
@@ -79,7 +79,7 @@ record IsEnds (s : List ℕ) (class alphabet segments sequence first : ℕ) (u :
   few : bigAt 2 s 18 ≤ mostRecords
   long : length s ≡ unitLineBytes
 
-ends-read : (s : List ℕ) (class alphabet segments sequence first : ℕ) (u : Unit) → unitEnds s (record { at = 10 }) class alphabet segments sequence first ≡ Read u → IsEnds s class alphabet segments sequence first u
+ends-read : (s : List ℕ) (class alphabet segments sequence first : ℕ) (u : Unit) → unitEnds s 10 class alphabet segments sequence first ≡ Read u → IsEnds s class alphabet segments sequence first u
 unfolding unitEnds
 ends-read s class alphabet segments sequence first u e =
     let a = past-field _ never 4 s 10 _ e in
@@ -164,10 +164,6 @@ unit-bytes line u e =
       append-nil,
       w .kind,
     ))
-
--- an accepted line is the unit's line
-pub unit-line : (line : List ℕ) (u : Unit) → Read u ≡ unitLine line → line ≡ lineOfBytes (unitBytes u)
-unit-line line u e = unit-accepted line u e .whole ∙ ap lineOfBytes (unit-bytes line u e)
 
 -- field after field
 nested : (u : Unit) → unitBytes u ≡ be 1 kindUnit ++ (be 1 (u .class) ++ (be 1 (u .alphabet) ++ (be 1 (u .segments) ++ (be 2 (u .sequence)

@@ -5,14 +5,15 @@ use mathlib.Core.List.{List, [], _∷_}
 use Prim.Native.Nat.{ℕ, zero, suc, _+_, _*_}
 use lib.Dec.{eqb, ltb}
 use lib.ListN.{length}
-use Rattle.refusal.specs.Numbers.{fine, malformed, misframed, countOut}
+use Rattle.refusal.specs.Numbers.{fine, misframed, countOut}
 use Rattle.frame.specs.Hex.{unhex}
-use Rattle.frame.specs.Line.{lineOf}
-use Rattle.frame.specs.Field.{bigAt, fieldAt, afterField}
-use Rattle.frame.specs.declared.field.Cursor.{Cursor}
+use Rattle.frame.specs.Line.{lineOf, lineNumber}
+use Rattle.frame.specs.Field.{bigAt, withField, fieldNumber}
+use Rattle.frame.specs.declared.line.Line.the-variants.{Malformed}
+use Rattle.frame.specs.declared.field.Field.the-variants.{Short}
 use Rattle.unit.specs.Kinds.{kindPair}
 use Rattle.unit.specs.State.{subsequences, mostSymbols, symbolPlace, tableLength}
-use Rattle.frame.specs.Steps.{afterLine, storedAt}
+use Rattle.frame.specs.Steps.{unless, afterLine, storedAt}
 use Rattle.preface.specs.declared.pair_line.PairLine.{PairLine}
 use Rattle.preface.specs.declared.pair_line.PairLine.the-variants.{Count, Refused}
 
@@ -24,36 +25,38 @@ symbolBytes = 4
 abbrev pub pairHead : ℕ
 pairHead = 4
 
--- a frame that ends before a field is complete, another kind or subsequence number, or bytes left over
+-- a frame that ends before a field is complete
+abbrev pub pairShort : PairLine
+pairShort = Refused (fieldNumber Short)
+
+-- another kind or subsequence number, too few symbols, or bytes left over
 abbrev pub pairMisframed : PairLine
 pairMisframed = Refused misframed
 
--- the count is within the limit (4), and so many symbols follow it, and nothing behind them
-unfoldable pub pairSymbols : List ℕ → ℕ → Cursor → PairLine
-pairSymbols s count c =
+-- the count is within the limit (4); so many symbols follow it, and nothing behind them (2)
+unfoldable pub pairSymbols : (frame : List ℕ) (count at : ℕ) → PairLine
+pairSymbols frame count at =
     cond (ltb mostSymbols count) (Refused countOut)
-    (cond (ltb (length s) (c .at + symbolBytes * count)) pairMisframed
-    (cond (ltb (c .at + symbolBytes * count) (length s)) pairMisframed
-    (Count count)))
+    (unless (eqb (at + symbolBytes * count) (length frame)) pairMisframed
+    (Count count))
 
 -- hexadecimal, kind 02, the subsequence's own number, then the count
-unfoldable pub pairCount : List ℕ → ℕ → PairLine
+unfoldable pub pairCount : (line : List ℕ) (number : ℕ) → PairLine
 pairCount line number =
-    afterLine (Refused malformed) (lineOf line)
-    (afterField pairMisframed (fieldAt 1 (unhex line) 0) (λ kind c.
-    cond (eqb kind kindPair)
-    (afterField pairMisframed (fieldAt 1 (unhex line) (c .at)) (λ sub d.
-    cond (eqb sub number)
-    (afterField pairMisframed (fieldAt 2 (unhex line) (d .at)) (λ count e. pairSymbols (unhex line) count e))
-    pairMisframed))
-    pairMisframed))
+    afterLine (Refused (lineNumber Malformed)) (lineOf line)
+    (withField pairShort 1 (unhex line) 0 (λ kind at.
+    unless (eqb kind kindPair) pairMisframed
+    (withField pairShort 1 (unhex line) at (λ sub at2.
+    unless (eqb sub number) pairMisframed
+    (withField pairShort 2 (unhex line) at2 (λ count at3.
+    pairSymbols (unhex line) count at3))))))
 
 -- the line of subsequence `number`, for a table of so many places: a table of another shape is refused by 4, a number that is no subsequence by 2, before the line is looked at
-unfoldable pub pairLine : List ℕ → ℕ → ℕ → PairLine
+unfoldable pub pairLine : (line : List ℕ) (number places : ℕ) → PairLine
 pairLine line number places =
-    cond (eqb places tableLength)
-    (cond (ltb number subsequences) (pairCount line number) pairMisframed)
-    (Refused countOut)
+    unless (eqb places tableLength) (Refused countOut)
+    (unless (ltb number subsequences) pairMisframed
+    (pairCount line number))
 
 -- n symbols, from byte `at` of a frame on
 unfoldable pub symbolsAt : ℕ → List ℕ → ℕ → List ℕ

@@ -5,13 +5,15 @@ use mathlib.Core.List.{List}
 use Prim.Native.Nat.{ℕ, _+_}
 use lib.Dec.{eqb, ltb}
 use lib.ListN.{length, drop}
-use Rattle.refusal.specs.Numbers.{fine, malformed, misframed, noRoom}
+use Rattle.refusal.specs.Numbers.{fine, misframed, noRoom}
 use Rattle.frame.specs.Hex.{unhex}
-use Rattle.frame.specs.Line.{lineOf}
-use Rattle.frame.specs.Field.{fieldAt, afterField}
+use Rattle.frame.specs.Line.{lineOf, lineNumber}
+use Rattle.frame.specs.Field.{withField, fieldNumber}
+use Rattle.frame.specs.declared.line.Line.the-variants.{Malformed}
+use Rattle.frame.specs.declared.field.Field.the-variants.{Short}
 use Rattle.unit.specs.Kinds.{kindReference}
 use Rattle.unit.specs.Unit.{mostReference}
-use Rattle.frame.specs.Steps.{afterLine, storedAt}
+use Rattle.frame.specs.Steps.{unless, afterLine, storedAt}
 use Rattle.preface.specs.declared.reference_line.ReferenceLine.{ReferenceLine}
 use Rattle.preface.specs.declared.reference_line.ReferenceLine.the-variants.{Bases, Refused}
 
@@ -24,7 +26,7 @@ abbrev pub basesOf : List ℕ → List ℕ
 basesOf s = drop 1 s
 
 -- n bases more, where `used` are there and `places` are lent: the counts (2), and last the room for what the limit allows (17)
-unfoldable pub addedBases : ℕ → ℕ → ℕ → ReferenceLine
+unfoldable pub addedBases : (n used places : ℕ) → ReferenceLine
 addedBases n used places =
     cond (ltb n 1) (Refused misframed)
     (cond (ltb mostLineBases n) (Refused misframed)
@@ -34,11 +36,12 @@ addedBases n used places =
     (Bases (used + n))))))
 
 -- hexadecimal, kind 07, then the symbol indexes
-unfoldable pub referenceLine : List ℕ → ℕ → ℕ → ReferenceLine
+unfoldable pub referenceLine : (line : List ℕ) (used places : ℕ) → ReferenceLine
 referenceLine line used places =
-    afterLine (Refused malformed) (lineOf line)
-    (afterField (Refused misframed) (fieldAt 1 (unhex line) 0) (λ kind c.
-    cond (eqb kind kindReference) (addedBases (length (basesOf (unhex line))) used places) (Refused misframed)))
+    afterLine (Refused (lineNumber Malformed)) (lineOf line)
+    (withField (Refused (fieldNumber Short)) 1 (unhex line) 0 (λ kind at.
+    unless (eqb kind kindReference) (Refused misframed)
+    (addedBases (length (basesOf (unhex line))) used places)))
 
 -- the reference after an answer: the indexes stand behind those that were there, and nothing else differs
 unfoldable pub referenceBy : ReferenceLine → List ℕ → ℕ → List ℕ → List ℕ

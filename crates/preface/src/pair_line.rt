@@ -33,7 +33,7 @@ impl PairLine {
 
 // Whether the frame has just so many symbols behind its count.
 fn check_symbols(line: &[u8], count: u32, c: Cursor) -> PairLine
-    ensures { λ r. ⌜ r ≡ pairSymbols (unhex (now (line .entry))) count c ⌝ }
+    ensures { λ r. ⌜ r ≡ pairSymbols (unhex (now (line .entry))) count (c .at) ⌝ }
 {
     if State::SYMBOLS < count {
         return PairLine::Refused(refusal::COUNT_OUT);

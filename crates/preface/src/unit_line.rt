@@ -6,12 +6,12 @@ use frame::field::read_u16;
 use frame::field::read_u32;
 use frame::line::Line;
 use frame::line::line_of;
+use unit::Unit;
+use unit::kind::Kind;
 use writing::lay::Wrote;
 use writing::lay::put_u8;
 use writing::lay::put_u16;
 use writing::lay::put_u32;
-use unit::Unit;
-use unit::kind::Kind;
 ghost use mathlib.Core.Path.{_≡_};
 ghost use mathlib.Core.List.{_++_};
 ghost use Prim.Native.Nat.{_+_, _*_, _≤_};
@@ -43,7 +43,7 @@ fn read_ends(
     sequence: u32,
     first: u32,
 ) -> UnitLine
-    ensures { λ r. ⌜ r ≡ unitEnds (unhex (now (line .entry))) c class alphabet segments sequence first ⌝ }
+    ensures { λ r. ⌜ r ≡ unitEnds (unhex (now (line .entry))) (c .at) class alphabet segments sequence first ⌝ }
 {
     let Field::Value(start, d) = read_u32(line, c) else {
         return UnitLine::Refused(refusal::MISFRAMED);
@@ -60,8 +60,7 @@ fn read_ends(
     if Unit::RECORDS < records {
         return UnitLine::Refused(refusal::UNIT_OUT);
     }
-    let bytes = line.len() / 2;
-    if f.at < bytes {
+    if f.at < line.len() / 2 {
         return UnitLine::Refused(refusal::MISFRAMED);
     }
     UnitLine::Read(Unit {
@@ -78,7 +77,7 @@ fn read_ends(
 
 // Template segments, sequence id and the position of the first lent reference base.
 fn read_template(line: &[u8], c: Cursor, class: u32, alphabet: u32) -> UnitLine
-    ensures { λ r. ⌜ r ≡ unitTemplate (unhex (now (line .entry))) c class alphabet ⌝ }
+    ensures { λ r. ⌜ r ≡ unitTemplate (unhex (now (line .entry))) (c .at) class alphabet ⌝ }
 {
     let Field::Value(segments, d) = read_u8(line, c) else {
         return UnitLine::Refused(refusal::MISFRAMED);
@@ -99,7 +98,7 @@ fn read_template(line: &[u8], c: Cursor, class: u32, alphabet: u32) -> UnitLine
 }
 
 fn read_class(line: &[u8], c: Cursor) -> UnitLine
-    ensures { λ r. ⌜ r ≡ unitClass (unhex (now (line .entry))) c ⌝ }
+    ensures { λ r. ⌜ r ≡ unitClass (unhex (now (line .entry))) (c .at) ⌝ }
 {
     let Field::Value(class, d) = read_u8(line, c) else {
         return UnitLine::Refused(refusal::MISFRAMED);

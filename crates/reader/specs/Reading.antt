@@ -20,6 +20,7 @@ abbrev pub behind : Field → ℕ → ℕ
 behind (Value v c) at = c .at
 behind Short at = at
 
+-- a line, of which nothing is read
 abbrev pub atFront : RefT (List ℕ) → Reader
 atFront line = record { 0 = line; 1 = 0 }
 

@@ -2,17 +2,18 @@
 -- Assumes nothing.
 use mathlib.Core.Path.{_≡_, refl, sym, ap, _∙_}
 use mathlib.Core.List.{List, _++_}
-use Prim.Native.Nat.{ℕ, _+_, _-_, _*_, _%_, _<_, _≤_}
+use Prim.Native.Nat.{ℕ, _+_, _-_, _*_, _<_, _≤_}
 use native.Mathlib.Omega.{arith}
-use borrow.Author.Tests.{lt-ltb, ne-eqb, eqb-true}
-use lib.Dec.{ltb, eqb}
+use borrow.Author.Tests.{lt-ltb, eqb-true}
+use lib.Dec.{eqb}
 use lib.ListN.{length, take, getD, length-append}
 use lib.Seq.{length-take-le}
 use Rattle.refusal.specs.Numbers.{fine, noRoom}
 use Rattle.frame.specs.Hex.{Bytes, unhex}
-use Rattle.frame.specs.Line.{lineDigits, lineEnd, lineWithin, lineOf}
+use Rattle.frame.specs.Line.{lineDigits, lineEnd, lineOf}
 use Rattle.frame.specs.declared.line.Line.the-variants.{Frame, Malformed}
 use Rattle.frame.proofs.HexLaws.{by-test}
+use Rattle.frame.proofs.LineLaws.{line-too-long, line-unended}
 use Rattle.unit.specs.State.{subsequences}
 use Rattle.unit.specs.Listed.{mostListed, leastListed, headOf, Step, refused, accepted}
 use Rattle.unit.specs.declared.Unit.{Unit as UnitOf}
@@ -145,18 +146,6 @@ record-roomy u reference symbols counts state line room eight h = by (stepOf u r
 
 -- ---- lines that are not well formed
 
--- too long, whatever it says
-long-malformed : (most : ℕ) (s : List ℕ) → most + 1 < length s → lineWithin most s ≡ Malformed
-unfolding lineWithin
-long-malformed most s h = by-test (eqb (length s % 2) 0) (λ t. simp t) (λ t. simp (t, lt-ltb most (length s - 1) (omega arith)))
-
--- no 0A at its end; an empty line has none
-unended-malformed : (most : ℕ) (s : List ℕ) → (getD s (length s - 1) 0 ≡ lineEnd → ⊥) → lineWithin most s ≡ Malformed
-unfolding lineWithin
-unended-malformed most s h =
-    by-test (eqb (length s % 2) 0) (λ t. simp t)
-    (λ t. by-test (ltb most (length s - 1)) (λ k. simp (t, k)) (λ k. simp (t, k, ne-eqb _ _ h)))
-
 module _ (u : UnitOf) (reference symbols counts : List ℕ) (state : State) where
   -- of a line that is not well formed nothing more is looked at
   pub malformed-same : (line other : List ℕ) → lineOf line ≡ Malformed → lineOf other ≡ Malformed → stepOf u reference symbols counts state line ≡ stepOf u reference symbols counts state other
@@ -167,11 +156,11 @@ module _ (u : UnitOf) (reference symbols counts : List ℕ) (state : State) wher
   pub long-line : (line : List ℕ) → lineDigits + 1 < length line → stepOf u reference symbols counts state line ≡ stepOf u reference symbols counts state (take (lineDigits + 2) line)
   long-line line h =
       let cut : length (take (lineDigits + 2) line) ≡ lineDigits + 2 = length-take-le (lineDigits + 2) line (omega arith) in
-      malformed-same line (take (lineDigits + 2) line) (long-malformed lineDigits line h) (long-malformed lineDigits _ (omega (arith, cut)))
+      malformed-same line (take (lineDigits + 2) line) (line-too-long lineDigits line h) (line-too-long lineDigits _ (omega (arith, cut)))
 
   -- a line without its 0A, as an empty one, is never accepted
   pub no-end : (line frame : List ℕ) (next : State) → (getD line (length line - 1) 0 ≡ lineEnd → ⊥) → stepOf u reference symbols counts state line ≡ accepted frame next → ⊥
   no-end line frame next h q =
       let t = step-taken u reference symbols counts state line frame next q .taken in
-      let e : Malformed ≡ Frame (t .size) = sym (unended-malformed lineDigits line h) ∙ t .well-formed in
+      let e : Malformed ≡ Frame (t .size) = sym (line-unended lineDigits line h) ∙ t .well-formed in
       let z : _≡_ {A = ℕ} 0 1 = cc in omega arith

@@ -11,7 +11,7 @@ ghost use lib.ListN.{length};
 ghost use Rattle.frame.specs.Hex.{unhex};
 ghost use Rattle.frame.specs.Field.{bigAt};
 ghost use Rattle.unit.specs.Listed.{leastListed};
-ghost use Rattle.listing.specs.Resuming.{within as withinOf, stateAt, listedLast, frameLast, lastOf};
+ghost use Rattle.listing.specs.Resuming.{stateAt, listedLast, frameLast, lastOf};
 ghost use Rattle.resuming.specs.Last.{bareSaid, saidOf};
 
 // What the last kept line says.
@@ -66,20 +66,6 @@ fn state_at(line: &[u8]) -> State
     State { number, index }
 }
 
-// No index is above its symbol count.
-fn within(index: [u32; State::SUBSEQUENCES], counts: [u32; State::SUBSEQUENCES]) -> bool
-    ensures { λ r. ⌜ r ≡ withinOf index counts ⌝ }
-{
-    let mut j: usize = 0;
-    while j < State::SUBSEQUENCES {
-        if counts[j] < index[j] {
-            return false;
-        }
-        j += 1;
-    }
-    true
-}
-
 // An 04 line of so many bytes.
 fn listed_last(line: &[u8], bytes: usize, count: u32, counts: [u32; State::SUBSEQUENCES]) -> Said
     requires { ⌜ bytes ≡ length (unhex (now line)) ⌝ }
@@ -93,8 +79,7 @@ fn listed_last(line: &[u8], bytes: usize, count: u32, counts: [u32; State::SUBSE
         return bare(Listed::Bad);
     }
     let state = state_at(line);
-    let index = state.index;
-    if !within(index, counts) {
+    if !state.within(&counts) {
         return bare(Listed::Bad);
     }
     Said {

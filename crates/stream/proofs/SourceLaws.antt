@@ -1,7 +1,6 @@
 -- The laws of a file that is read through a buffer: bytes moved to the front, bytes read behind others, the first line of what waits.
 -- Assumes nothing.
-use Prim.Native.Nat.{ℕ, zero, suc, _+_, _-_, _<_, _≤_}
-use native.Mathlib.Numerals.{add-one}
+use Prim.Native.Nat.{ℕ, _+_, _-_, _<_, _≤_}
 use native.Mathlib.Omega.{arith}
 use mathlib.Core.Path.{_≡_, refl, sym, ap, _∙_}
 use mathlib.Core.Bool.{Bool, true, false, cond}
@@ -10,14 +9,13 @@ use lib.Dec.{eqb, leb}
 use lib.IntN.{ℤ}
 use lib.ListN.{length, take, drop, getD, set, length-set, length-take, length-drop}
 use lib.Seq.{slice, getD-set-same, getD-set-other, getD-take, getD-drop, ext-getD, length-take-le, length-slice, take-take, take-add, drop-at}
-use borrow.Author.Tests.{eqb-true, eqb-false, leb-true, leb-false, eq-eqb, ne-eqb}
+use borrow.Author.Tests.{eqb-true, eqb-false, leb-false}
 use borrow.Rule.Slice.PartMut.{midOf, putMid, mid-len, same-len-mid, take-put}
 use Rattle.frame.specs.Line.{lineDigits, lineEnd}
-use Rattle.frame.specs.Next.{endedBy, windowOf, nextLine}
+use Rattle.frame.specs.Next.{endedBy, nextLine}
 use Rattle.frame.specs.declared.line.Next.{Next}
-use Rattle.frame.specs.declared.line.Next.the-variants.{Whole, TooLong, NoEnd, Nothing}
+use Rattle.frame.specs.declared.line.Next.the-variants.{Whole, TooLong, NoEnd}
 use Rattle.frame.proofs.HexLaws.{by-test, false-true}
-use Rattle.frame.proofs.NextLaws.{window-le}
 use Rattle.resuming.specs.Pass.{passOver}
 use Rattle.stream.specs.Source.{unreadable, Held, Leads, Some, Filled, Refilled, Ready, bytesBy, lineBytes, HandedLine}
 use Rattle.resuming.specs.declared.pass.Passed.{Passed}
@@ -174,13 +172,13 @@ ended-within n most k (x ∷ xs) without h g =
 pub line-within : (s : List ℕ) → lineBytes s ≤ length s
 unfolding lineBytes nextLine
 line-within s =
-    by-test (eqb (windowOf (length s)) 0) (λ e. rw e (omega arith))
-    (λ e. rw e (ended-within (length s) (length s) 0 (take (windowOf (length s)) s) _ (simp length-take (omega arith)) without))
+    by-test (eqb (length s) 0) (λ e. rw e (omega arith))
+    (λ e. rw e (ended-within (length s) (length s) 0 (take (lineDigits + 1) s) _ (simp length-take (omega arith)) without))
   where
-    without : bytesBy (length s) (cond (leb (windowOf (length s)) lineDigits) NoEnd TooLong) ≤ length s
+    without : bytesBy (length s) (cond (leb (length s) lineDigits) NoEnd TooLong) ≤ length s
     without =
-        by-test (leb (windowOf (length s)) lineDigits) (λ e. rw e (omega arith))
-        (λ e. rw e (omega (arith, leb-false (windowOf (length s)) lineDigits e, window-le (length s))))
+        by-test (leb (length s) lineDigits) (λ e. rw e (omega arith))
+        (λ e. rw e (omega (arith, leb-false (length s) lineDigits e)))
 
 -- the bytes that wait, as they are lent
 pub part-slice : (a e : ℕ) (l : List ℕ) → a ≤ e → e ≤ length l → take (e - a) (drop a l) ≡ slice a e l

@@ -1,7 +1,7 @@
 -- A unit within its values is what `unitRefusal` lets pass, and nothing else is.
 -- Assumes nothing.
 use mathlib.Core.Path.{_≡_}
-use Prim.Native.Nat.{ℕ, _≤_}
+use Prim.Native.Nat.{_≤_}
 use native.Mathlib.Omega.{arith}
 use borrow.Author.Tests.{le-ltb}
 use Rattle.refusal.specs.Numbers.{fine, unitOut}

@@ -2,12 +2,15 @@
 -- Assumes nothing.
 use Prim.Native.Nat.{ℕ}
 
+-- the unit line, the first of unit.hex
 abbrev pub kindUnit : ℕ
 kindUnit = 1
 
+-- the pair symbols of one subsequence
 abbrev pub kindPair : ℕ
 kindPair = 2
 
+-- a record, before it is decoded
 abbrev pub kindRecord : ℕ
 kindRecord = 3
 
@@ -23,5 +26,6 @@ kindRefused = 5
 abbrev pub kindDone : ℕ
 kindDone = 6
 
+-- reference bases
 abbrev pub kindReference : ℕ
 kindReference = 7

@@ -1,6 +1,9 @@
 -- What is carried from record to record (document 01, Order): the next record's number and the eight indexes.
 -- Assumes nothing.
 use Prim.Native.Nat.{ℕ, _+_, _*_}
+use mathlib.Core.Bool.{Bool, true, false, cond}
+use mathlib.Core.List.{List, [], _∷_}
+use lib.Dec.{ltb}
 use lib.ListN.{replicate}
 use Rattle.unit.specs.declared.State.{State}
 
@@ -23,3 +26,9 @@ freshState = record { number = 0; index = replicate subsequences 0 }
 -- the places of the flat table
 abbrev pub tableLength : ℕ
 tableLength = subsequences * mostSymbols
+
+-- no index is above its symbol count, side by side (document 01, Order and Resuming)
+unfoldable pub within : (index counts : List ℕ) → Bool
+within [] counts = true
+within (k ∷ ks) [] = false
+within (k ∷ ks) (n ∷ ns) = cond (ltb n k) false (within ks ns)

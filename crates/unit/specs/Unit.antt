@@ -6,21 +6,27 @@ use lib.Dec.{eqb, ltb}
 use Rattle.refusal.specs.Numbers.{fine, unitOut}
 use Rattle.unit.specs.declared.Unit.{Unit}
 
+-- the classes, as the unit line numbers them: 1 P
 abbrev pub classP : ℕ
 classP = 1
 
+-- 2 N
 abbrev pub classN : ℕ
 classN = 2
 
+-- 3 M
 abbrev pub classM : ℕ
 classM = 3
 
+-- 4 I
 abbrev pub classI : ℕ
 classI = 4
 
+-- 5 HM
 abbrev pub classHM : ℕ
 classHM = 5
 
+-- 6 U
 abbrev pub classU : ℕ
 classU = 6
 
@@ -28,13 +34,19 @@ classU = 6
 abbrev pub lastAlphabet : ℕ
 lastAlphabet = 1
 
+-- the most template segments
 abbrev pub mostSegments : ℕ
 mostSegments = 2
 
+-- the largest value of 16 bits
+abbrev pub largest16 : ℕ
+largest16 = 65535
+
 -- the largest sequence id, a u16
 abbrev pub mostSequence : ℕ
-mostSequence = 65535
+mostSequence = largest16
 
+-- the most records of a unit
 abbrev pub mostRecords : ℕ
 mostRecords = 1024
 

@@ -4,7 +4,7 @@ pub mod listed;
 
 ghost use mathlib.Core.Path.{_≡_};
 ghost use Rattle.unit.specs.Unit.{unitRefusal, leastSegments};
-ghost use Rattle.unit.specs.State.{freshState};
+ghost use Rattle.unit.specs.State.{freshState, within as withinOf};
 
 // The unit line's eight values.
 pub struct Unit {
@@ -38,8 +38,8 @@ impl Unit {
     // The most template segments.
     pub const SEGMENTS: u32 = 2;
 
-    // The largest sequence id, a u16 on the unit line.
-    pub const SEQUENCE: u32 = 65_535;
+    // The largest value of 16 bits: no sequence id is above it, and no value used from pair subsequence 1, 4 or 5.
+    pub const LARGEST16: u32 = 65_535;
 
     // The most records.
     pub const RECORDS: u32 = 1_024;
@@ -79,10 +79,10 @@ impl Unit {
         if Unit::RECORDS < self.records {
             return refusal::UNIT_OUT;
         }
-        if Unit::SEQUENCE < self.sequence {
+        if Unit::LARGEST16 < self.sequence {
             return refusal::UNIT_OUT;
         }
-        0
+        refusal::FINE
     }
 }
 
@@ -109,5 +109,23 @@ impl State {
             number: 0,
             index: [0u32; State::SUBSEQUENCES],
         }
+    }
+
+    // No index is above its symbol count.
+    pub fn within(self, counts: &[u32]) -> bool
+        ensures { λ r. ⌜ r ≡ withinOf (self .index) (now (counts .entry)) ⌝ }
+    {
+        let index = self.index;
+        let mut i: usize = 0;
+        while i < State::SUBSEQUENCES {
+            if counts.len() <= i {
+                return false;
+            }
+            if counts[i] < index[i] {
+                return false;
+            }
+            i += 1;
+        }
+        true
     }
 }

@@ -2,12 +2,12 @@
 -- Assumes nothing.
 use mathlib.Core.Path.{_≡_, refl, sym, ap, _∙_}
 use mathlib.Core.List.{List, [], _∷_, _++_, append-nil}
-use Prim.Native.Nat.{ℕ, zero, suc, _+_, _*_, _-_, _/_, _%_, _<_, _≤_}
+use Prim.Native.Nat.{ℕ, suc, _+_, _*_, _-_, _/_, _%_, _≤_}
 use native.Mathlib.Nat.{add-zero}
 use native.Mathlib.Numerals.{add-one}
 use native.Mathlib.Omega.{arith}
 use lib.ListN.{length, take, drop, set, length-append, length-set, length-drop, take-append-drop, drop-of-length-le}
-use lib.Seq.{take-set-le, sets, sets-eq, take-all, drop-set-add, set-out}
+use lib.Seq.{take-set-le, sets, sets-eq, take-all, drop-set-add}
 use borrow.Rule.Slice.PartMut.{putMid, midOf}
 use Rattle.frame.specs.Hex.{glyph, hexOf, be}
 use Rattle.writing.specs.Lay.{lay, Laid}
@@ -34,13 +34,6 @@ lay-sets s a (b ∷ bs) = let e : a + 2 ≡ suc (suc a) = omega arith in rw (e, 
 -- what is laid, as a reader sees it: the digits stand there, and nothing before or behind them differs
 pub lay-eq : (s : List ℕ) (a : ℕ) (bs : List ℕ) → a + 2 * length bs ≤ length s → lay s a bs ≡ take a s ++ hexOf bs ++ drop (a + 2 * length bs) s
 lay-eq s a bs h = rw (← length-hexOf bs, lay-sets) (sets-eq (hexOf bs) s a (rw (← length-hexOf bs) at h))
-
--- what would be laid past the end is left out
-pub lay-past : (s : List ℕ) (a : ℕ) (bs : List ℕ) → length s ≤ a → lay s a bs ≡ s
-unfolding lay
-lay-past s a [] h = refl
-lay-past s a (b ∷ bs) h =
-    rw (set-out s a (glyph (b / 16)) h, set-out s (a + 1) (glyph (b % 16)) (omega arith)) (lay-past s (a + 2) bs (omega arith))
 
 -- ---- the rest of a line, lent on from place a: what is laid at j of the rest is laid at a + j of the whole
 
@@ -85,10 +78,7 @@ length-laid {a} {b} {at} {r} {xs} f = ap length (f .holds) ∙ length-lay a at x
 pub laid-room : {a b : List ℕ} {at p : ℕ} {xs : List ℕ} (n m : ℕ) → Laid a b at p xs → length xs ≡ n → at + 2 * n + m ≤ length a → p + m ≤ length b
 laid-room n m f e h = omega (arith, f .to, length-laid f)
 
--- room for two pieces is room for the first, and behind the first for the second
-pub room-first : (l : List ℕ) (at : ℕ) (xs ys : List ℕ) → at + 2 * length (xs ++ ys) ≤ length l → at + 2 * length xs ≤ length l
-room-first l at xs ys h = omega (arith, length-append xs ys)
-
+-- room for two pieces is, behind the first, room for the second
 pub room-next : {a b : List ℕ} {at p : ℕ} {xs : List ℕ} (ys : List ℕ) → Laid a b at p xs → at + 2 * length (xs ++ ys) ≤ length a → p + 2 * length ys ≤ length b
 room-next {xs = xs} ys f h = omega (arith, f .to, length-laid f, length-append xs ys)
 

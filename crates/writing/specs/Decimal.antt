@@ -10,5 +10,6 @@ unfoldable pub decimalF : ℕ → ℕ → List ℕ
 decimalF zero n = []
 decimalF (suc f) n = cond (ltb n 10) ((48 + n) ∷ []) (decimalF f (n / 10) ++ (48 + n % 10) ∷ [])
 
+-- in base 10, no leading zero
 unfoldable pub decimal : ℕ → List ℕ
 decimal n = decimalF (suc n) n

@@ -6,9 +6,15 @@ use borrow.Author.Needs.{needs}
 use Rattle.pairing.proofs.take.Statement.{statement}
 use Rattle.pairing.proofs.take.Tie as tie
 
+none-left-requires : tie.Need-none-left-requires
+none-left-requires c κs = search needs
+
 returns : tie.Need-returns
 unfolding takeOf
 returns c = search (le-leb, lt-leb)
+
+none-left-requires-2 : tie.Need-none-left-requires-2
+none-left-requires-2 c κs = search needs
 
 returns-2 : tie.Need-returns-2
 unfolding takeOf
@@ -26,6 +32,9 @@ mul-n c = search needs
 shared-slice-read-n : tie.Need-shared-slice-read-n
 shared-slice-read-n c = search needs
 
+none-left-requires-3 : tie.Need-none-left-requires-3
+none-left-requires-3 c κs = search needs
+
 returns-3 : tie.Need-returns-3
 unfolding takeOf
 returns-3 c = search (le-leb, lt-leb)
@@ -40,7 +49,10 @@ cast-at-2 : tie.Need-cast-at-2
 cast-at-2 c = search needs
 
 add-at : tie.Need-add-at
-add-at c = omega (arith, c .before .shared-slice-known .given (c .before .before .before .before .before .args .s))
+add-at c = omega (arith, c .before .shared-slice-known3 .given (c .before .before .before .before .before .before .before .args .s))
+
+none-left-requires-4 : tie.Need-none-left-requires-4
+none-left-requires-4 c κs = search needs
 
 returns-4 : tie.Need-returns-4
 unfolding takeOf
@@ -54,7 +66,7 @@ shared-slice-read-v c = search needs
 
 add-next : tie.Need-add-next
 add-next c =
-    omega (arith, c .before .before .before .shared-slice-known .given (c .before .before .before .before .before .before .before .args .s))
+    omega (arith, c .before .before .before .shared-slice-known3 .given (c .before .before .before .before .before .before .before .before .before .args .s))
 
 mul-next : tie.Need-mul-next
 mul-next c = search needs
@@ -70,17 +82,21 @@ pub take-spec : {M : Type 1} → statement M
 take-spec =
     tie.close
     (tie.spec
+    none-left-requires
     returns
+    none-left-requires-2
     returns-2
     mul-k
     element-copy-out-k
     mul-n
     shared-slice-read-n
+    none-left-requires-3
     returns-3
     cast-at
     mul-at
     cast-at-2
     add-at
+    none-left-requires-4
     returns-4
     mul-v
     shared-slice-read-v

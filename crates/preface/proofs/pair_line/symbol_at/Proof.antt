@@ -1,7 +1,7 @@
 -- `unit::pair_line::symbol_at` meets its contract: the field is complete. Assumes nothing.
 use mathlib.Core.Path.{sym, _∙_}
 use Rattle.preface.specs.PairLine.{symbolBytes}
-use Rattle.frame.proofs.AnswerLaws.{value-is-field, never-short}
+use Rattle.frame.proofs.FieldLaws.{value-is-field, never-short}
 use borrow.Author.Needs.{needs}
 use Rattle.preface.proofs.pair_line.symbol_at.Statement.{statement}
 use Rattle.preface.proofs.pair_line.symbol_at.Tie as tie

@@ -3,7 +3,7 @@ use Rattle.preface.specs.ReferenceLine.{referenceLine}
 use mathlib.Core.Path.{sym, _∙_}
 use native.Mathlib.Omega.{arith}
 use Rattle.frame.proofs.HexLaws.{length-unhex}
-use Rattle.frame.proofs.AnswerLaws.{value-is-field}
+use Rattle.frame.proofs.FieldLaws.{value-is-field}
 use Rattle.frame.proofs.StepLaws.{steps}
 use Rattle.preface.proofs.ReferenceLaws.{counted}
 use borrow.Author.Needs.{needs}

@@ -17,7 +17,7 @@ bare-requires c κs = search needs
 returns : tie.Need-returns
 unfolding saidOf
 returns c = let start = c .before .before .before in
-    c .bare .ensures ∙ ap saidOf (listed-short (start .args .count) (start .args .counts) (unhex (now (start .args .line))) _ (start .pre) (omega (arith, c .before .if1 .taken)))
+    c .bare .ensures ∙ ap saidOf (listed-short (start .args .count) (start .args .t4) (unhex (now (start .args .line))) _ (start .pre) (omega (arith, c .before .if1 .taken)))
 
 word-at-requires : tie.Need-word-at-requires
 word-at-requires c κs = let start = c .before .before in omega (arith, start .pre, length-unhex (now (start .args .line)))
@@ -28,10 +28,13 @@ bare-requires-2 c κs = search needs
 returns-2 : tie.Need-returns-2
 unfolding saidOf
 returns-2 c = let start = c .before .before .before .before .before in
-    c .bare2 .ensures ∙ ap saidOf (listed-far (start .args .count) (start .args .counts) (unhex (now (start .args .line))) _ (start .pre) (omega (arith, c .before .before .before .if1 .left)) _ (c .before .before .word-at .ensures) (omega (arith, c .before .if2 .taken)))
+    c .bare2 .ensures ∙ ap saidOf (listed-far (start .args .count) (start .args .t4) (unhex (now (start .args .line))) _ (start .pre) (omega (arith, c .before .before .before .if1 .left)) _ (c .before .before .word-at .ensures) (omega (arith, c .before .if2 .taken)))
 
 state-at-requires : tie.Need-state-at-requires
 state-at-requires c κs = let start = c .before .before .before .before in omega (arith, start .pre, length-unhex (now (start .args .line)))
+
+slice-aggregate-within : tie.Need-slice-aggregate-within
+slice-aggregate-within c = search needs
 
 within-requires : tie.Need-within-requires
 within-requires c κs = search needs
@@ -44,14 +47,14 @@ unfolding saidOf
 returns-3 c = let start = c .before .before .before .before .before .before .before .before .before in
     c .bare3 .ensures
     ∙ ap saidOf
-    (listed-above (start .args .count) (start .args .counts) (unhex (now (start .args .line))) _ (start .pre) (omega (arith, c .before .before .before .before .before .before .before .if1 .left)) _ (c .before .before .before .before .before .before .word-at .ensures) (omega (arith, c .before .before .before .before .before .if2 .left)) _ (c .before .before .before .before .state-at .ensures)
+    (listed-above (start .args .count) (start .args .t4) (unhex (now (start .args .line))) _ (start .pre) (omega (arith, c .before .before .before .before .before .before .before .if1 .left)) _ (c .before .before .before .before .before .before .word-at .ensures) (omega (arith, c .before .before .before .before .before .if2 .left)) _ (c .before .before .before .before .state-at .ensures)
     (sym (c .before .before .within .ensures) ∙ not-true _ (c .before .if3 .taken)))
 
 returns-4 : tie.Need-returns-4
 unfolding saidOf
 returns-4 c = let start = c .before .before .before .before .before .before .before .before in
     ap saidOf
-    (listed-fits (start .args .count) (start .args .counts) (unhex (now (start .args .line))) _ (start .pre) (omega (arith, c .before .before .before .before .before .before .if1 .left)) _ (c .before .before .before .before .before .word-at .ensures) (omega (arith, c .before .before .before .before .if2 .left)) _ (c .before .before .before .state-at .ensures)
+    (listed-fits (start .args .count) (start .args .t4) (unhex (now (start .args .line))) _ (start .pre) (omega (arith, c .before .before .before .before .before .before .if1 .left)) _ (c .before .before .before .before .before .word-at .ensures) (omega (arith, c .before .before .before .before .if2 .left)) _ (c .before .before .before .state-at .ensures)
     (sym (c .before .within .ensures) ∙ not-false _ (c .if3 .left)))
 
 pub listed-last-spec : {M : Type 1} → statement M
@@ -64,6 +67,7 @@ listed-last-spec =
     bare-requires-2
     returns-2
     state-at-requires
+    slice-aggregate-within
     within-requires
     bare-requires-3
     returns-3

@@ -1,12 +1,9 @@
 -- The proof of the cycle of calls {decimal_len}: the quotient by ten falls. Assumes nothing.
-use Prim.Native.Nat.{ℕ, _<_, _≤_, _+_, _*_, _/_}
+use Prim.Native.Nat.{ℕ, _<_, _/_}
 use native.Mathlib.Omega.{arith}
 use native.Mathlib.Nat.{lt-suc-self}
-use borrow.Author.Needs.{needs}
-use mathlib.Core.Path.{_≡_, refl, sym, _∙_}
-use lib.ListN.{length, length-append}
-use Rattle.writing.specs.Decimal.{decimal}
-use Rattle.writing.proofs.DecimalLaws.{decimal-small, decimal-more, length-small, length-more, length-most}
+use mathlib.Core.Path.{sym}
+use Rattle.writing.proofs.DecimalLaws.{length-small, length-more, length-most}
 use borrow.Fn.Kinds.{In}
 use borrow.Fn.PlainCycle.{Measures, is, falls, and}
 use Rattle.writing.proofs.decimal.decimal_len.Reads as decimal-len

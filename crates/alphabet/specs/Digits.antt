@@ -1,0 +1,15 @@
+-- The digits of an alphabet's letters, for a writer of many: no table of the standard, but a line's text of Table 35's letters.
+-- Assumes nothing.
+use Prim.Native.Nat.{ℕ, zero, suc, _+_}
+use mathlib.Core.List.{List, [], _∷_}
+use Rattle.frame.specs.Hex.{hexOf}
+use Rattle.alphabet.specs.Table35.{letterOf}
+
+-- S[index], S[index + 1] and so on, n of them
+unfoldable pub lettersFrom : (alphabet index n : ℕ) → List ℕ
+lettersFrom alphabet index zero = []
+lettersFrom alphabet index (suc n) = letterOf alphabet index ∷ lettersFrom alphabet (index + 1) n
+
+-- the digits of the letters of the indexes 0 to 16; 16 is outside both alphabets
+unfoldable pub digitsOf : (alphabet : ℕ) → List ℕ
+digitsOf alphabet = hexOf (lettersFrom alphabet 0 17)
