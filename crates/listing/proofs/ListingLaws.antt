@@ -1,13 +1,15 @@
 -- The laws of a listing's lines: each is well formed, the 04 lines are numbered from 0, the last is an 05 or an 06 line, and 17 stands nowhere.
 -- Assumes nothing.
-use Prim.Native.Nat.{ℕ, zero, suc, _+_, _*_, _/_, _%_, _≤_, _<_}
+use Prim.Native.Nat.{ℕ, zero, suc, _+_, _-_, _*_, _/_, _%_, _≤_, _<_}
 use native.Mathlib.Nat.{zero-add, add-zero}
 use native.Mathlib.Omega.{arith}
 use mathlib.Core.Path.{_≡_, refl, sym, ap, _∙_}
 use mathlib.Core.Logic.{inl, inr}
 use mathlib.Core.List.{List, [], _∷_, _++_, append-assoc}
-use lib.Dec.{lit<, lit≤}
+use lib.Dec.{leb, lit<, lit≤}
 use lib.ListN.{length, getD}
+use lib.Seq.{take-nil, take-append-le, take-append-add}
+use borrow.Author.Tests.{leb-true, leb-false}
 use Rattle.refusal.specs.Numbers.{missing, noRoom}
 use Rattle.frame.specs.Hex.{Bytes, unhex, be}
 use Rattle.frame.specs.Line.{lineDigits}
@@ -18,12 +20,12 @@ use Rattle.frame.proofs.FieldLaws.{field-back}
 use Rattle.unit.specs.State.{subsequences, freshState}
 use Rattle.unit.specs.declared.State.{State}
 use Rattle.unit.specs.Kinds.{kindListed, kindRefused, kindDone}
-use Rattle.listing.specs.Lines.{linesOf, joined, same}
+use Rattle.listing.specs.Lines.{linesOf, joined, kept, linesWithin, same}
 use Rattle.unit.specs.Listed.{mostListed, headOf, words, Step, refused, accepted}
 use Rattle.listing.specs.Record.{Setup, Accepted, FirstLine, Lawful}
 use Rattle.listing.specs.Listing.{Front, alone, unpaired, ready, frame05, line05, frame06, line06, lastLine, onStep, records, firstOf, restOf, listed, listing, LawfulFront, onAccepted, stateBehind, Each, none, one, ListingLine, Numbered, Finished}
-use Rattle.listing.specs.Resuming.{lastFrom, bytes05, bytes06, ClosingLine, Closes}
-use Rattle.listing.proofs.LinesLaws.{same-true, whole-bytes, whole-frame, lines-line}
+use Rattle.listing.specs.Resuming.{lastFrom, bytes05, bytes06, ClosingLine, Closes, torn}
+use Rattle.listing.proofs.LinesLaws.{same-true, whole-bytes, whole-frame, kept-line, lines-line, kept-zeros, kept-part}
 use Rattle.listing.proofs.ResumeLaws.{accepted-kind}
 
 -- ---- the bytes of the last lines
@@ -125,6 +127,27 @@ split-back (one {l} {ls} h g) = lines-line (h .whole) (joined ls) ∙ ap (λ (r 
 pub listing-split : (F : Front) → LawfulFront F → linesOf (listing F) ≡ listed F
 unfolding listing
 listing-split F w = split-back (listing-lines F w)
+
+-- ---- a stop at byte n keeps the lines that end within n bytes, and no other byte
+
+kept-lines : {ls : List (List ℕ)} → Each ListingLine ls → (n k : ℕ) → kept (torn n k (joined ls)) ≡ joined (linesWithin n ls)
+unfolding joined linesWithin
+kept-lines none n k = rw (take-nil n) (kept-zeros k)
+kept-lines (one {l} {ls} h g) n k =
+    by-test (leb (length l) n)
+    (λ t.
+    let e : n ≡ length l + (n - length l) = omega (arith, leb-true (length l) n t) in
+    rw t
+    (ap (λ (m : ℕ). kept (torn m k (l ++ joined ls))) e
+    ∙ rw (take-append-add l (joined ls) (n - length l), append-assoc)
+    (kept-line (h .whole) (torn (n - length l) k (joined ls)) ∙ ap (λ (r : List ℕ). l ++ r) (kept-lines g (n - length l) k))))
+    (λ t.
+    let lt : n < length l = leb-false (length l) n t in
+    rw (t, take-append-le n l (joined ls) (omega arith)) (kept-part (h .whole) n k lt))
+
+pub listing-kept : (F : Front) → LawfulFront F → (n k : ℕ) → kept (torn n k (listing F)) ≡ joined (linesWithin n (listed F))
+unfolding listing
+listing-kept F w n k = kept-lines (listing-lines F w) n k
 
 -- ---- 17 stands nowhere
 

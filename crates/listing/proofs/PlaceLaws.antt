@@ -50,7 +50,7 @@ behind-first : (F : Front) (z : List ℕ) → (z ≡ firstOf F → ⊥) → supp
 unfolding supply place
 behind-first F z h = rw (same-refl (firstOf F), same-false z (firstOf F) h)
 
-behind-none : (F : Front) → supply F (edges (firstOf F) (firstOf F)) ≡ add (joined (restOf F))
+pub behind-none : (F : Front) → supply F (edges (firstOf F) (firstOf F)) ≡ add (joined (restOf F))
 unfolding supply place added
 behind-none F = rw (same-refl (firstOf F))
 
