@@ -3,7 +3,7 @@
 use Prim.Native.Nat.{ℕ, suc, _+_, _-_, _<_, _≤_}
 use mathlib.Core.Path.{_≡_, refl, sym}
 use mathlib.Core.Logic.{_⊎_}
-use mathlib.Core.List.{List, [], _++_}
+use mathlib.Core.List.{List, [], _∷_, _++_}
 use mathlib.Core.Option.{none, some}
 use lib.ListN.{length, getD, take, drop}
 use Rattle.refusal.specs.Numbers.{missing, otherFirst, otherLast, noRoom}
@@ -39,9 +39,10 @@ use Rattle.listing.proofs.Demand2 as two
 use Rattle.listing.proofs.Demand3 as three
 use Rattle.remains.proofs.Demand3 as found
 use Rattle.resuming.proofs.Demand3 as behind
-use Rattle.decoder.specs.Files.{readReference, countsIn, emptyTable, tableOf, basesInto, readsInto}
+use Rattle.decoder.specs.Files.{readReference, readUnit, readPair, countsIn, emptyTable, tableOf, basesInto, readsInto}
 use Rattle.decoder.specs.Decoder.{frontOf, listingOf, firstListed, restListed, linesListed, suppliedBy, suppliedOf, resumedOf, resumedAgainOf, Opened, setupIn}
 use Rattle.decoder.specs.Symbols.{symbolsTaken, RecordLine, AllTaken}
+use Rattle.decoder.specs.Ending.{Ending}
 use Rattle.decoder.specs.Turned.{turnOf, turnedOf, outputOf, callsFor}
 use Rattle.decoder.specs.declared.Turned.{Turned}
 use Rattle.decoder.specs.declared.Added.the-variants.{NoRoom}
@@ -49,7 +50,8 @@ use Rattle.decoder.proofs.TableLaws.{reads-bases}
 use Rattle.decoder.proofs.LawfulLaws.{front-is-lawful}
 use Rattle.decoder.proofs.OpenedLaws.{opened-front, opened-table}
 use Rattle.decoder.proofs.SymbolsLaws.{opened-lawful, taken-in-order, listing-record, listing-done}
-use Rattle.decoder.proofs.ListingLaws.{lines-short, listing-bytes, reference-first, opened-calls, opened-goes-on}
+use Rattle.decoder.proofs.EndingLaws.{opened-ending}
+use Rattle.decoder.proofs.ListingLaws.{lines-short, listing-bytes, reference-first, unit-missing, unit-refused-alone, pair-missing, pair-refused-first, opened-calls, opened-goes-on}
 use Rattle.decoder.proofs.TurnLaws.{turn-short}
 
 -- ---- DEMAND 1: a refused call changes nothing that was lent
@@ -90,6 +92,25 @@ module _ (refFile unitFile : List ℕ) where
   pub reference-is-read-first : (n : ℕ) → readReference (linesOf refFile) ≡ wrong n → listingOf refFile unitFile ≡ line05 0 n
   reference-is-read-first = reference-first refFile unitFile
 
+  -- a unit file without a line: 14 stands alone
+  pub no-unit-line-stands-alone : (reference : List ℕ) → readReference (linesOf refFile) ≡ good reference → linesOf unitFile ≡ [] → listingOf refFile unitFile ≡ line05 0 missing
+  no-unit-line-stands-alone = unit-missing refFile unitFile
+
+  -- a refused unit line: its refusal number stands alone
+  pub refused-unit-line-stands-alone : (reference : List ℕ) → readReference (linesOf refFile) ≡ good reference → (line : List ℕ) (ls : List (List ℕ)) → linesOf unitFile ≡ line ∷ ls
+      → (n : ℕ) → readUnit line ≡ wrong n → listingOf refFile unitFile ≡ line05 0 n
+  refused-unit-line-stands-alone = unit-refused-alone refFile unitFile
+
+  -- a pair line that is missing, or the first that is refused, behind an accepted unit line: the unit line, then the 05 line with 14 or its refusal number
+  module _ (reference first : List ℕ) (u : Unit) (ps : List (List ℕ)) (read : readReference (linesOf refFile) ≡ good reference) (unit : readUnit first ≡ good u)
+      (few : length ps < subsequences) (pairs-read : (j : ℕ) → j < length ps → (row : List ℕ) × (readPair j (getD ps j []) ≡ good row)) where
+    pub missing-pair-line-is-told : linesOf unitFile ≡ first ∷ ps → listingOf refFile unitFile ≡ first ++ line05 0 missing
+    missing-pair-line-is-told = pair-missing refFile unitFile reference read first u ps unit few pairs-read
+
+    pub refused-pair-line-is-told : (line : List ℕ) (ls : List (List ℕ)) → linesOf unitFile ≡ first ∷ (ps ++ line ∷ ls) → (n : ℕ) → readPair (length ps) line ≡ wrong n
+        → listingOf refFile unitFile ≡ first ++ line05 0 n
+    refused-pair-line-is-told = pair-refused-first refFile unitFile reference read first u ps unit few pairs-read
+
   -- every line has lower-case digits, two a byte and no more than the limit, one 0A at its end and no zero byte
   pub every-line-is-well-formed : Each ListingLine (linesListed refFile unitFile)
   every-line-is-well-formed = two.every-line-is-well-formed (frontOf refFile unitFile) (front-is-lawful refFile unitFile)
@@ -122,6 +143,11 @@ module _ (refFile unitFile : List ℕ) where
   pub last-line-closes : Closes (lastFrom (firstListed refFile unitFile) (restListed refFile unitFile))
   last-line-closes = two.last-line-closes (frontOf refFile unitFile)
 
+  -- demand 1's refusals in it: behind i 04 lines an 05 line has the number i, and the number by which the record call refuses record i from the state behind them;
+  -- or 14, where the lines run out or a line or a pair symbol is left over. A listing without a refusal ends in 06 and the record count
+  pub last-line-says-why : (o : Opened refFile unitFile) → Ending o (lastFrom (firstListed refFile unitFile) (restListed refFile unitFile))
+  last-line-says-why = opened-ending
+
   -- where it is 06, every record is listed, and every pair symbol was taken once, in order: none is left
   pub done-takes-every-symbol : (count : ℕ) → lastFrom (firstListed refFile unitFile) (restListed refFile unitFile) ≡ line06 count → (o : Opened refFile unitFile) × AllTaken o
   done-takes-every-symbol = listing-done refFile unitFile
@@ -150,7 +176,7 @@ module _ (refFile unitFile : List ℕ) where
   pub resuming-makes-whole : (n k : ℕ) → resumedOf refFile unitFile (torn n k (listingOf refFile unitFile)) ≡ listingOf refFile unitFile
   resuming-makes-whole = three.resuming-makes-whole (frontOf refFile unitFile) (front-is-lawful refFile unitFile)
 
-  -- "the listing keeps its whole lines": what is kept are the listing's lines that end within its first n bytes, and nothing else
+  -- what is kept then (Resuming: "everything up to the last 0A that stands before the first zero byte") are the listing's lines that end within its first n bytes, and nothing else
   pub whole-lines-are-kept : (n k : ℕ) → kept (torn n k (listingOf refFile unitFile)) ≡ joined (linesWithin n (linesListed refFile unitFile))
   whole-lines-are-kept = three.whole-lines-are-kept (frontOf refFile unitFile) (front-is-lawful refFile unitFile)
 

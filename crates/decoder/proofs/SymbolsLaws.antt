@@ -114,9 +114,9 @@ module _ (u : Unit) (reference : List ℕ) (rows : List (List ℕ)) (few : Few r
 -- ---- the state behind so many records
 
 -- it has an index for each subsequence, none above its count
-record Behind (E : Setup) (state : State) : Type 0 where
-  indexes : length (state .index) ≡ subsequences
-  within : (s : ℕ) → taken state s ≤ getD (E .counts) s 0
+pub record Behind (E : Setup) (state : State) : Type 0 where
+  pub indexes : length (state .index) ≡ subsequences
+  pub within : (s : ℕ) → taken state s ≤ getD (E .counts) s 0
 
 behind : {E : Setup} → Lawful E → (k : ℕ) (state : State) (ls : List (List ℕ)) → Behind E state → Behind E (stateBehind E k state ls)
 unfolding stateBehind
@@ -204,10 +204,10 @@ module _ {refFile unitFile : List ℕ} (o : Opened refFile unitFile) where
   opened-lawful = rw (opened-front o) at (front-is-lawful refFile unitFile)
 
   -- the state behind the first k records
-  abbrev reached : ℕ → State
+  abbrev pub reached : ℕ → State
   reached k = stateBehind (setupIn o) k freshState (o .lines)
 
-  reached-behind : (k : ℕ) → Behind (setupIn o) (reached k)
+  pub reached-behind : (k : ℕ) → Behind (setupIn o) (reached k)
   reached-behind k = behind opened-lawful k freshState (o .lines) (fresh-behind (setupIn o))
 
   -- the symbols taken are the front of the row, up to the index
@@ -216,7 +216,7 @@ module _ {refFile unitFile : List ℕ} (o : Opened refFile unitFile) where
       let q = taken-rows (o .unit) (o .reference) (o .rows) (opened-few o) (o .row-lists) (o .first) (o .lines) s known k freshState (o .lines) refl in
       rw (fresh-none s known) at q
 
-  index-taken : (s : ℕ) → s < subsequences → (k : ℕ) → taken (reached k) s ≡ length (symbolsTaken o s k)
+  pub index-taken : (s : ℕ) → s < subsequences → (k : ℕ) → taken (reached k) s ≡ length (symbolsTaken o s k)
   index-taken s known k =
       rw (taken-front s known k)
       (sym (length-take-le (taken (reached k) s) (getD (o .rows) s []) (rw (← count-at (o .rows) s) (reached-behind k .within s))))
@@ -251,7 +251,7 @@ module _ {refFile unitFile : List ℕ} (o : Opened refFile unitFile) where
       let full : taken (reached (o .unit .records)) s ≡ length (getD (o .rows) s []) = ap (λ (index : List ℕ). getD index s 0) (f .symbols) ∙ count-at (o .rows) s in
       taken-front s known (o .unit .records) ∙ rw full (take-length (getD (o .rows) s []))
 
-  opened-done : (count : ℕ) → lastFrom (firstOf (ready (setupIn o))) (restOf (ready (setupIn o))) ≡ line06 count → AllTaken o
+  pub opened-done : (count : ℕ) → lastFrom (firstOf (ready (setupIn o))) (restOf (ready (setupIn o))) ≡ line06 count → AllTaken o
   unfolding firstOf restOf
   opened-done count e =
       record {

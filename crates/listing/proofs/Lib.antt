@@ -4,6 +4,7 @@ pub mod LinesLaws
 pub mod WordLaws
 pub mod LastLaws
 pub mod ListingLaws
+pub mod EndLaws
 pub mod TurnLaws
 pub mod ResumeLaws
 pub mod PlaceLaws
