@@ -1,6 +1,6 @@
 -- The laws of the last line of two files' listing: it says why the listing ends.
 -- Assumes nothing.
-use Prim.Native.Nat.{ℕ, suc, _+_, _<_, _≤_}
+use Prim.Native.Nat.{ℕ, suc, _<_}
 use native.Mathlib.Nat.{zero-add}
 use native.Mathlib.Omega.{arith}
 use mathlib.Core.Path.{_≡_, refl, sym, ap, _∙_}
@@ -9,17 +9,15 @@ use mathlib.Core.List.{List, [], _∷_}
 use lib.ListN.{length, getD, drop, length-drop}
 use lib.Seq.{ext-getD}
 use Rattle.refusal.specs.Numbers.{missing}
-use Rattle.frame.proofs.HexLaws.{by-test}
 use Rattle.unit.specs.State.{subsequences, freshState}
-use Rattle.unit.specs.declared.State.{State}
 use Rattle.listing.specs.Lines.{same}
-use Rattle.listing.specs.Listing.{ready, line05, line06, lastLine, firstOf, restOf}
+use Rattle.listing.specs.Listing.{line05, line06, lastLine, firstOf, restOf}
 use Rattle.listing.specs.Resuming.{lastFrom}
 use Rattle.listing.proofs.LinesLaws.{same-not}
 use Rattle.listing.proofs.EndLaws.{LastBy, by-call, by-end, by-rest, ended}
 use Rattle.decoder.specs.Decoder.{Opened, setupIn, firstListed, restListed}
 use Rattle.decoder.specs.Symbols.{symbolsTaken}
-use Rattle.decoder.specs.Ending.{RefusedAt, Stopped, refusedBy, linesRunOut, lineLeft, symbolLeft, Ending, done, stopped}
+use Rattle.decoder.specs.Ending.{refusedBy, linesRunOut, lineLeft, symbolLeft, Ending, done, stopped}
 use Rattle.decoder.proofs.TableLaws.{length-counts, count-at}
 use Rattle.decoder.proofs.OpenedLaws.{opened-front}
 use Rattle.decoder.proofs.SymbolsLaws.{opened-lawful, reached, reached-behind, index-taken, opened-done}

@@ -13,12 +13,13 @@ pub record Outcome : Type 0 where
   pub answer : ℤ
   pub lent : List (List ℕ)
 
+-- the two together
 abbrev pub outcome : ℤ → List (List ℕ) → Outcome
 outcome answer lent = record { answer = answer; lent = lent }
 
--- so many bytes, symbols or bases
-abbrev pub counts : ℕ → List (List ℕ) → Outcome
-counts n lent = outcome (pos n) lent
+-- the call is accepted, and this is its number: so many bytes, symbols or bases
+abbrev pub answers : ℕ → List (List ℕ) → Outcome
+answers n lent = outcome (pos n) lent
 
 -- "a refusal returns its number .. and no lent byte differs" (document 01, Order): `lent` is what was lent
 abbrev pub refuses : ℕ → List (List ℕ) → Outcome
