@@ -12,7 +12,6 @@ use lib.ListN.{length, getD, take, replicate, getD-replicate, List·getD-eq-defa
 use lib.Seq.{take-suc, take-length, length-take-le}
 use borrow.Author.Tests.{eqb-true, eqb-false, ltb-true, ltb-false}
 use Rattle.refusal.specs.Numbers.{missing}
-use Rattle.frame.specs.Hex.{unhex, be}
 use Rattle.frame.proofs.HexLaws.{by-test}
 use Rattle.frame.proofs.LineLaws.{lineOfBytes}
 use Rattle.unit.specs.State.{subsequences, freshState}
@@ -27,9 +26,9 @@ use Rattle.pairing.proofs.Laws.{pair-follows, pair-reads}
 use Rattle.record.specs.Record.{stepOf}
 use Rattle.record.proofs.RecordLaws.{step-taken, step-accepted}
 use Rattle.listing.specs.Record.{Setup, Accepted, Lawful}
-use Rattle.listing.specs.Listing.{Front, alone, unpaired, ready, line05, line06, onStep, records, onAccepted, stateBehind, firstOf, restOf, LawfulFront, Finished}
+use Rattle.listing.specs.Listing.{Front, alone, unpaired, ready, line06, onStep, records, onAccepted, stateBehind, firstOf, restOf, LawfulFront, Finished}
 use Rattle.listing.specs.Resuming.{lastFrom}
-use Rattle.listing.proofs.ListingLaws.{unhex-05, unhex-06}
+use Rattle.listing.proofs.ListingLaws.{not-06}
 use Rattle.listing.proofs.Demand2.{done-leaves-no-symbol}
 use Rattle.decoder.specs.Files.{countsIn, tableOf}
 use Rattle.decoder.specs.Decoder.{setupBy, frontOf, Opened, setupIn}
@@ -174,14 +173,6 @@ call-at {E} w (suc k) state (l ∷ ls) x (suc i) h = by (E .step state l) refl h
         let a : Accepted E state l frame next = w .acceptance state l frame next x e in
         let q : state .number + suc i ≡ next .number + i = omega (arith, a .number) in
         rw q (go next (a .indexes) i (omega arith))
-
--- an 05 line is no 06 line
-not-06 : (q n r : ℕ) {P : Type 0} → line05 q n ≡ line06 r → P
-unfolding be
-not-06 q n r e =
-    absurd
-    (let k : getD (unhex (line05 q n)) 0 0 ≡ getD (unhex (line06 r)) 0 0 = ap (λ (l : List ℕ). getD (unhex l) 0 0) e in
-    omega (arith, rw (unhex-05 q n, unhex-06 r) at k))
 
 -- where the last line is 06, each record has its line
 all-listed : (E : Setup) (k : ℕ) (state : State) (ls : List (List ℕ)) (z : List ℕ) (q : ℕ) → lastFrom z (records E k state ls) ≡ line06 q → length (records E k state ls) ≡ suc k

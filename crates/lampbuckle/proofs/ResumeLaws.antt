@@ -1,18 +1,18 @@
 -- The laws of the calls for going on: each way that a call ends, from what the listing's own functions answered.
 -- Assumes nothing.
 use mathlib.Core.Path.{_≡_}
-use mathlib.Core.Bool.{Bool, true, false, cond}
+use mathlib.Core.Bool.{Bool, true, false}
 use mathlib.Core.List.{List, [], _∷_}
-use Prim.Native.Nat.{ℕ, zero, suc, _-_, _^_, _<_, _≤_}
+use Prim.Native.Nat.{ℕ, _^_, _<_}
 use native.Mathlib.Omega.{arith}
-use lib.Dec.{eqb, eqb·suc-zero, lit<}
+use lib.Dec.{lit<}
 use lib.IntN.{ℤ, pos}
 use lib.ListN.{length, getD}
 use borrow.Author.Tests.{eq-eqb}
-use Rattle.frame.specs.Line.{lineEnd}
 use Rattle.unit.specs.State.{subsequences}
 use Rattle.remains.specs.Keep.{keepAll}
 use Rattle.resuming.specs.Pass.{passOver}
+use Rattle.resuming.proofs.PassLaws.{pass-within}
 use Rattle.listing.specs.Resuming.{edgesFrom, placeBy}
 use Rattle.resuming.specs.Last.{placedOf}
 use Rattle.remains.specs.declared.keep.Keep.{Keep}
@@ -45,18 +45,10 @@ module _ (listed : List ℕ) (count : ℕ) (counts first last lent : List ℕ) w
 
 -- ---- lines passed over
 
--- no more than there is
-pass-inside : (w : ℕ) (xs : List ℕ) → passOver w xs .at ≤ length xs
-unfolding passOver
-pass-inside w [] = omega arith
-pass-inside zero (x ∷ xs) = omega arith
-pass-inside (suc w) (x ∷ xs) =
-    let h = pass-inside (cond (eqb x lineEnd) (suc w - 1) (suc w)) xs in rw (eqb·suc-zero w) (omega (arith, h))
-
 module _ (piece lent : List ℕ) where
   module _ {p : Passed} (is : p ≡ passOver (getD lent 0 0) piece) where
     pub pass-counted : length piece < 2 ^ 63 → p .at < 2 ^ 63
-    pass-counted h = rw is (omega (arith, pass-inside (getD lent 0 0) piece))
+    pass-counted h = rw is (omega (arith, pass-within (getD lent 0 0) piece))
 
     pub pass-gone : length lent ≡ wantedLength → {a : ℤ} {after : List ℕ} → after ≡ p .left ∷ [] → a ≡ pos (p .at) → outcome a (after ∷ []) ≡ passCall piece lent
     unfolding passCall

@@ -10,3 +10,4 @@ pub mod ResumeLaws
 pub mod PlaceLaws
 pub mod FilesLaws
 pub mod Sample
+pub mod Unique

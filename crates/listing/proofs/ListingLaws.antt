@@ -26,25 +26,14 @@ use Rattle.listing.specs.Record.{Setup, Accepted, FirstLine, Lawful}
 use Rattle.listing.specs.Listing.{Front, alone, unpaired, ready, frame05, line05, frame06, line06, lastLine, onStep, records, firstOf, restOf, listed, listing, LawfulFront, onAccepted, stateBehind, Each, none, one, ListingLine, Numbered, Finished}
 use Rattle.listing.specs.Resuming.{lastFrom, bytes05, bytes06, ClosingLine, Closes, torn}
 use Rattle.listing.proofs.LinesLaws.{same-true, whole-bytes, whole-frame, kept-line, lines-line, kept-zeros, kept-part}
+use Rattle.listing.proofs.LastLaws.{bytes-05, bytes-06}
 use Rattle.listing.proofs.ResumeLaws.{accepted-kind}
 
 -- ---- the bytes of the last lines
 
-bytes-05 : (q n : ℕ) → Bytes (frame05 q n)
-unfolding be Bytes
-bytes-05 q n = (lit< tt, (omega arith, (omega arith, (omega arith, tt))))
-
-bytes-06 : (q : ℕ) → Bytes (frame06 q)
-unfolding be Bytes
-bytes-06 q = (lit< tt, (omega arith, (omega arith, tt)))
-
-pub unhex-05 : (q n : ℕ) → unhex (line05 q n) ≡ frame05 q n
+unhex-05 : (q n : ℕ) → unhex (line05 q n) ≡ frame05 q n
 unfolding line05
 unhex-05 q n = unhex-line (frame05 q n) (bytes-05 q n)
-
-pub unhex-06 : (q : ℕ) → unhex (line06 q) ≡ frame06 q
-unfolding line06
-unhex-06 q = unhex-line (frame06 q) (bytes-06 q)
 
 closing-05 : (q n : ℕ) → ClosingLine kindRefused bytes05 (line05 q n)
 unfolding line05 be
@@ -229,7 +218,7 @@ listing-closes (unpaired first n) = inl (closing-05 0 n)
 listing-closes (ready E) = closes-from E (E .count) freshState (E .lines) (E .first)
 
 -- an 05 line is no 06 line
-not-06 : (q n r : ℕ) {P : Type 0} → line05 q n ≡ line06 r → P
+pub not-06 : (q n r : ℕ) {P : Type 0} → line05 q n ≡ line06 r → P
 not-06 q n r e = absurd (omega (arith, closing-05 q n .kind, closing-06 r .kind, ap (λ (x : List ℕ). getD (unhex x) 0 0) e))
 
 -- behind an 06 line no pair symbol is left over, and every record is listed

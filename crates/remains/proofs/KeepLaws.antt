@@ -15,7 +15,8 @@ use Rattle.frame.specs.Line.{lineEnd}
 use Rattle.frame.proofs.HexLaws.{by-test}
 use Rattle.listing.specs.Lines.{linesOf, keptWith, kept, WholeLine, end, more}
 use Rattle.listing.specs.Resuming.{lastFrom, edges, edgesFrom, edgesOf, edgesIn}
-use Rattle.remains.specs.Keep.{mostBytes, fresh, stopped, lineKept, passedBy, keepByte, keepAll, edgesAt, runLength, RunEnd, keepRun}
+use Rattle.remains.specs.Keep.{mostBytes, fresh, stopped, lineKept, passedBy, keepByte, keepAll, edgesAt}
+use Rattle.remains.specs.Run.{runLength, RunEnd, keepRun}
 use Rattle.remains.specs.declared.keep.Keep.{Keep}
 use Rattle.listing.proofs.LinesLaws.{kept-line, lines-line, whole-long}
 

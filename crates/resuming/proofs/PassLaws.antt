@@ -13,6 +13,7 @@ use lib.ListN.{length, getD, drop, drop-of-length-le}
 use lib.Seq.{drop-cons}
 use borrow.Author.Tests.{ne-eqb}
 use Rattle.frame.specs.Line.{lineEnd}
+use Rattle.frame.proofs.HexLaws.{by-test}
 use Rattle.listing.specs.Lines.{pushByte, linesOf, ends}
 use Rattle.listing.specs.Resuming.{skip}
 use Rattle.resuming.specs.Pass.{passed, shifted, passOver}
@@ -59,6 +60,14 @@ pass-piece (suc j) (x ∷ xs) ys = rw (eqb·suc-zero j) (by (eqb x lineEnd) (pas
         let pred : suc j - 1 ≡ j = omega arith in
         rw (pred, one-add) e
     by false e f = rw one-add f
+
+-- no more is passed over than there is
+pub pass-within : (want : ℕ) (xs : List ℕ) → passOver want xs .at ≤ length xs
+unfolding passOver
+pass-within want [] = omega arith
+pass-within want (x ∷ xs) =
+    let i = pass-within (cond (eqb x lineEnd) (want - 1) want) xs in
+    by-test (eqb want 0) (λ e. rw e (omega arith)) (λ e. rw e (omega arith))
 
 -- ---- a turn of the loop
 
