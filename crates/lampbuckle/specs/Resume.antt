@@ -11,7 +11,7 @@ use Rattle.unit.specs.declared.State.{State}
 use Rattle.remains.specs.Keep.{keepAll}
 use Rattle.resuming.specs.Pass.{passOver}
 use Rattle.listing.specs.Resuming.{edgesFrom, placeBy}
-use Rattle.resuming.specs.Last.{placedOf}
+use Rattle.resuming.specs.Last.{placedOf, numberOf}
 use Rattle.remains.specs.declared.keep.Keep.{Keep}
 use Rattle.resuming.specs.declared.pass.Passed.{Passed}
 use Rattle.resuming.specs.declared.place.Go.{Go}
@@ -43,7 +43,7 @@ byGo Afresh next lent = goesOn 0 next
 byGo Second next lent = goesOn 1 next
 byGo On next lent = goesOn 2 next
 byGo Over next lent = goesOn 3 next
-byGo (Refused n) next lent = refuses n (lent ∷ [])
+byGo (Refused n) next lent = refuses (numberOf (Refused n)) (lent ∷ [])
 
 -- the answer of `place`, as numbers
 abbrev pub placeAnswered : Placed → List ℕ → Outcome
