@@ -30,11 +30,9 @@ use Rattle.listing.specs.Files.{good, wrong}
 use Rattle.listing.specs.Listing.{line05, line06, Each, ListingLine, Numbered}
 use Rattle.listing.specs.Resuming.{bytes05, bytes06, stateAt, lastFrom, nothing, edges, edgesFrom, countOf, countsOf, place, ListedLine, ClosingLine, Closes, Continues, placeBy, add, refuse, skip, onSkip, edgesIn, printed, noRecord, torn}
 use Rattle.listing.specs.Turn.{Turn}
-use Rattle.remains.specs.Keep.{mostBytes, fresh, keepAll, edgesAt}
+use Rattle.remains.specs.Keep.{mostBytes, fresh, keepAll, edgesAt, Known}
 use Rattle.remains.specs.declared.keep.Keep.{Keep}
-use Rattle.remains.proofs.KeepLaws.{Known}
-use Rattle.resuming.specs.Pass.{passed, passOver}
-use Rattle.resuming.proofs.PassLaws.{linesIn}
+use Rattle.resuming.specs.Pass.{passed, linesIn, passOver}
 use Rattle.listing.proofs.Demand2 as two
 use Rattle.listing.proofs.Demand3 as three
 use Rattle.remains.proofs.Demand3 as found

@@ -27,16 +27,12 @@ use Rattle.resuming.specs.Last.{placedOf}
 use Rattle.listing.specs.Resuming.{edgesFrom, placeBy}
 use Rattle.resuming.specs.declared.place.Go.{Go}
 use Rattle.resuming.specs.declared.place.Go.the-variants.{Afresh, Second, On, Over, Refused}
-use Rattle.lampbuckle.specs.Answer.{Outcome}
+use Rattle.lampbuckle.specs.Answer.{Outcome, Kept}
 use Rattle.lampbuckle.specs.Numbers.{unitLength, unitOf, unitNumbersRefusal, stateLength, stateOf, keepLength}
 use Rattle.lampbuckle.specs.Lines.{unitAnswered, unitCall, pairAnswered, pairCall, referenceAnswered, referenceCall}
 use Rattle.lampbuckle.specs.Call.{recordAnswered, recordCall}
 use Rattle.lampbuckle.specs.Write.{writtenCall, unitWritten}
 use Rattle.lampbuckle.specs.Resume.{keepCall, byGo, placeCall, wantedLength, passCall}
-
--- where the answer is negative, what is lent is as it was
-abbrev pub Kept : Outcome → List (List ℕ) → Type 0
-Kept x lent = (n : ℕ) → x .answer ≡ negsuc n → x .lent ≡ lent
 
 -- ---- by the form of an outcome
 

@@ -7,7 +7,6 @@ use native.Mathlib.Omega.{arith}
 use mathlib.Core.Path.{_≡_, refl, sym, ap, _∙_}
 use mathlib.Core.Bool.{Bool, true, false, cond}
 use mathlib.Core.List.{List, [], _∷_, _++_}
-use mathlib.Core.Option.{Option, none, some}
 use lib.Dec.{eqb, eqb·suc-zero}
 use lib.ListN.{length, getD, drop, drop-of-length-le}
 use lib.Seq.{drop-cons}
@@ -16,15 +15,10 @@ use Rattle.frame.specs.Line.{lineEnd}
 use Rattle.frame.proofs.HexLaws.{by-test}
 use Rattle.listing.specs.Lines.{pushByte, linesOf, ends}
 use Rattle.listing.specs.Resuming.{skip}
-use Rattle.resuming.specs.Pass.{passed, shifted, passOver}
+use Rattle.resuming.specs.Pass.{passed, linesIn, shifted, passOver}
 use Rattle.resuming.specs.declared.pass.Passed.{Passed}
 
 -- ---- to pass over lines is to count their 0A
-
--- the lines of what is left, where something is
-abbrev pub linesIn : Option (List ℕ) → Option (List (List ℕ))
-linesIn none = none
-linesIn (some f) = some (linesOf f)
 
 -- a byte in front of a line changes nothing of whether it ends
 skip-push : (j x : ℕ) (ls : List (List ℕ)) → eqb x lineEnd ≡ false → skip (suc j) (pushByte x ls) ≡ skip (suc j) ls
