@@ -1,9 +1,9 @@
 -- WHAT IS PROMISED, demand by demand: of every reference.hex and unit.hex, whatever their bytes, and of every found file. Each theorem is proved where it is cited from.
 -- Assumes nothing.
 use Prim.Native.Nat.{ℕ, suc, _+_, _-_, _<_, _≤_}
-use mathlib.Core.Path.{_≡_, refl}
+use mathlib.Core.Path.{_≡_, refl, sym}
 use mathlib.Core.Logic.{_⊎_}
-use mathlib.Core.List.{List, []}
+use mathlib.Core.List.{List, [], _∷_, _++_}
 use mathlib.Core.Option.{none, some}
 use lib.ListN.{length, getD, take, drop}
 use Rattle.refusal.specs.Numbers.{missing, otherFirst, otherLast, noRoom}
@@ -16,21 +16,31 @@ use Rattle.unit.specs.Kinds.{kindRefused, kindDone}
 use Rattle.unit.specs.Listed.{mostListed, numberPlace, refused, accepted}
 use Rattle.unit.specs.declared.Unit.{Unit}
 use Rattle.unit.specs.declared.State.{State}
+use Rattle.preface.specs.PairLine.{pairLine, tableAfter}
+use Rattle.preface.specs.ReferenceLine.{referenceLine, referenceAfter}
+use Rattle.preface.specs.declared.pair_line.PairLine.the-variants as pair
+use Rattle.preface.specs.declared.reference_line.ReferenceLine.the-variants as reference
+use Rattle.preface.proofs.PairLaws.{table-kept}
+use Rattle.preface.proofs.ReferenceLaws.{reference-kept}
 use Rattle.record.specs.Record.{stepOf, recordOf, recorded, output}
 use Rattle.record.specs.declared.Answer.the-variants.{Refused}
 use Rattle.record.proofs.RecordLaws.{StepTaken, step-taken}
-use Rattle.listing.specs.Lines.{linesOf, joined, kept}
+use Rattle.listing.specs.Lines.{linesOf, joined, kept, linesWithin}
 use Rattle.listing.specs.Files.{good, wrong}
 use Rattle.listing.specs.Listing.{line05, line06, Each, ListingLine, Numbered}
-use Rattle.listing.specs.Resuming.{bytes05, bytes06, stateAt, lastFrom, nothing, edges, countOf, countsOf, place, ListedLine, ClosingLine, Closes, Continues, placeBy, add, refuse, skip, onSkip, edgesIn, printed, noRecord, torn}
+use Rattle.listing.specs.Resuming.{bytes05, bytes06, stateAt, lastFrom, nothing, edges, edgesFrom, countOf, countsOf, place, ListedLine, ClosingLine, Closes, Continues, placeBy, add, refuse, skip, onSkip, edgesIn, printed, noRecord, torn}
 use Rattle.listing.specs.Turn.{Turn}
-use Rattle.remains.specs.Keep.{mostBytes, fresh, keepAll, edgesAt}
+use Rattle.remains.specs.Keep.{mostBytes, fresh, keepAll, edgesAt, Known}
+use Rattle.remains.specs.declared.keep.Keep.{Keep}
+use Rattle.resuming.specs.Pass.{passed, linesIn, passOver}
 use Rattle.listing.proofs.Demand2 as two
 use Rattle.listing.proofs.Demand3 as three
 use Rattle.remains.proofs.Demand3 as found
-use Rattle.decoder.specs.Files.{readReference, countsIn, emptyTable, tableOf, basesInto, readsInto}
+use Rattle.resuming.proofs.Demand3 as behind
+use Rattle.decoder.specs.Files.{readReference, readUnit, readPair, countsIn, emptyTable, tableOf, basesInto, readsInto}
 use Rattle.decoder.specs.Decoder.{frontOf, listingOf, firstListed, restListed, linesListed, suppliedBy, suppliedOf, resumedOf, resumedAgainOf, Opened, setupIn}
 use Rattle.decoder.specs.Symbols.{symbolsTaken, RecordLine, AllTaken}
+use Rattle.decoder.specs.Ending.{Ending}
 use Rattle.decoder.specs.Turned.{turnOf, turnedOf, outputOf, callsFor}
 use Rattle.decoder.specs.declared.Turned.{Turned}
 use Rattle.decoder.specs.declared.Added.the-variants.{NoRoom}
@@ -38,7 +48,8 @@ use Rattle.decoder.proofs.TableLaws.{reads-bases}
 use Rattle.decoder.proofs.LawfulLaws.{front-is-lawful}
 use Rattle.decoder.proofs.OpenedLaws.{opened-front, opened-table}
 use Rattle.decoder.proofs.SymbolsLaws.{opened-lawful, taken-in-order, listing-record, listing-done}
-use Rattle.decoder.proofs.ListingLaws.{lines-short, listing-bytes, reference-first, opened-calls, opened-goes-on}
+use Rattle.decoder.proofs.EndingLaws.{opened-ending}
+use Rattle.decoder.proofs.ListingLaws.{lines-short, listing-bytes, reference-first, unit-missing, unit-refused-alone, pair-missing, pair-refused-first, opened-calls, opened-goes-on}
 use Rattle.decoder.proofs.TurnLaws.{turn-short}
 
 -- ---- DEMAND 1: a refused call changes nothing that was lent
@@ -49,7 +60,15 @@ pub refused-call-changes-nothing : (u : Unit) (reference symbols counts : List �
     × (output out (recordOf u reference symbols counts state line (length out)) ≡ out)
 refused-call-changes-nothing u reference symbols counts state line out n e = (rw e, rw e)
 
--- nor does a turn that is lent less than the longest line needs
+-- a pair line that is refused leaves the lent table as it was
+pub refused-pair-line-changes-nothing : (line : List ℕ) (i : ℕ) (table : List ℕ) (n : ℕ) → pairLine line i (length table) ≡ pair.Refused n → tableAfter line i table ≡ table
+refused-pair-line-changes-nothing line i table n e = sym (table-kept line i n table refl (sym e) .1)
+
+-- a reference line that is refused leaves the lent bases as they were
+pub refused-reference-line-changes-nothing : (line : List ℕ) (used : ℕ) (bases : List ℕ) (n : ℕ) → referenceLine line used (length bases) ≡ reference.Refused n → referenceAfter line used bases ≡ bases
+refused-reference-line-changes-nothing line used bases n e = sym (reference-kept line used n bases refl (sym e) .1)
+
+-- a turn that is lent less than the longest line needs changes nothing either
 pub short-turn-changes-nothing : (u : Unit) (reference symbols counts : List ℕ) (state : State) (line out : List ℕ) → length out ≤ mostListed
     → (record { added = NoRoom; state = state } ≡ turnedOf out state (turnOf u reference symbols counts state line)) × (out ≡ outputOf out (turnOf u reference symbols counts state line))
 short-turn-changes-nothing = turn-short
@@ -70,6 +89,25 @@ module _ (refFile unitFile : List ℕ) where
   -- "The reference is read first": where one of its lines is refused, the 05 line stands alone, whatever the unit file is
   pub reference-is-read-first : (n : ℕ) → readReference (linesOf refFile) ≡ wrong n → listingOf refFile unitFile ≡ line05 0 n
   reference-is-read-first = reference-first refFile unitFile
+
+  -- a unit file without a line: 14 stands alone
+  pub no-unit-line-stands-alone : (reference : List ℕ) → readReference (linesOf refFile) ≡ good reference → linesOf unitFile ≡ [] → listingOf refFile unitFile ≡ line05 0 missing
+  no-unit-line-stands-alone = unit-missing refFile unitFile
+
+  -- a refused unit line: its refusal number stands alone
+  pub refused-unit-line-stands-alone : (reference : List ℕ) → readReference (linesOf refFile) ≡ good reference → (line : List ℕ) (ls : List (List ℕ)) → linesOf unitFile ≡ line ∷ ls
+      → (n : ℕ) → readUnit line ≡ wrong n → listingOf refFile unitFile ≡ line05 0 n
+  refused-unit-line-stands-alone = unit-refused-alone refFile unitFile
+
+  -- a pair line that is missing, or the first that is refused, behind an accepted unit line: the unit line, then the 05 line with 14 or its refusal number
+  module _ (reference first : List ℕ) (u : Unit) (ps : List (List ℕ)) (read : readReference (linesOf refFile) ≡ good reference) (unit : readUnit first ≡ good u)
+      (few : length ps < subsequences) (pairs-read : (j : ℕ) → j < length ps → (row : List ℕ) × (readPair j (getD ps j []) ≡ good row)) where
+    pub missing-pair-line-is-told : linesOf unitFile ≡ first ∷ ps → listingOf refFile unitFile ≡ first ++ line05 0 missing
+    missing-pair-line-is-told = pair-missing refFile unitFile reference read first u ps unit few pairs-read
+
+    pub refused-pair-line-is-told : (line : List ℕ) (ls : List (List ℕ)) → linesOf unitFile ≡ first ∷ (ps ++ line ∷ ls) → (n : ℕ) → readPair (length ps) line ≡ wrong n
+        → listingOf refFile unitFile ≡ first ++ line05 0 n
+    refused-pair-line-is-told = pair-refused-first refFile unitFile reference read first u ps unit few pairs-read
 
   -- every line has lower-case digits, two a byte and no more than the limit, one 0A at its end and no zero byte
   pub every-line-is-well-formed : Each ListingLine (linesListed refFile unitFile)
@@ -103,6 +141,11 @@ module _ (refFile unitFile : List ℕ) where
   pub last-line-closes : Closes (lastFrom (firstListed refFile unitFile) (restListed refFile unitFile))
   last-line-closes = two.last-line-closes (frontOf refFile unitFile)
 
+  -- demand 1's refusals in it: behind i 04 lines an 05 line has the number i, and the number by which the record call refuses record i from the state behind them;
+  -- or 14, where the lines run out or a line or a pair symbol is left over. A listing without a refusal ends in 06 and the record count
+  pub last-line-says-why : (o : Opened refFile unitFile) → Ending o (lastFrom (firstListed refFile unitFile) (restListed refFile unitFile))
+  last-line-says-why = opened-ending
+
   -- where it is 06, every record is listed, and every pair symbol was taken once, in order: none is left
   pub done-takes-every-symbol : (count : ℕ) → lastFrom (firstListed refFile unitFile) (restListed refFile unitFile) ≡ line06 count → (o : Opened refFile unitFile) × AllTaken o
   done-takes-every-symbol = listing-done refFile unitFile
@@ -131,6 +174,10 @@ module _ (refFile unitFile : List ℕ) where
   pub resuming-makes-whole : (n k : ℕ) → resumedOf refFile unitFile (torn n k (listingOf refFile unitFile)) ≡ listingOf refFile unitFile
   resuming-makes-whole = three.resuming-makes-whole (frontOf refFile unitFile) (front-is-lawful refFile unitFile)
 
+  -- what is kept then (Resuming: "everything up to the last 0A that stands before the first zero byte") are the listing's lines that end within its first n bytes, and nothing else
+  pub whole-lines-are-kept : (n k : ℕ) → kept (torn n k (listingOf refFile unitFile)) ≡ joined (linesWithin n (linesListed refFile unitFile))
+  whole-lines-are-kept = three.whole-lines-are-kept (frontOf refFile unitFile) (front-is-lawful refFile unitFile)
+
   -- what is supplied is exactly what is missing
   pub supplied-is-the-rest : (n k : ℕ) → suppliedOf refFile unitFile (torn n k (listingOf refFile unitFile)) ≡ add (drop (length (kept (torn n k (listingOf refFile unitFile)))) (listingOf refFile unitFile))
   supplied-is-the-rest = three.supplied-is-the-rest (frontOf refFile unitFile) (front-is-lawful refFile unitFile)
@@ -138,6 +185,10 @@ module _ (refFile unitFile : List ℕ) where
   -- however often the listing is stopped and resumed
   pub resuming-again-makes-whole : (stops : List (ℕ × ℕ)) → resumedAgainOf refFile unitFile stops ≡ listingOf refFile unitFile
   resuming-again-makes-whole = three.resuming-again-makes-whole (frontOf refFile unitFile) (front-is-lawful refFile unitFile)
+
+  -- resuming looks at a found file only through its first and its last kept line: what is supplied for two files that agree in them is the same
+  pub supplied-by-edges : (found other : List ℕ) → edgesIn found ≡ edgesIn other → suppliedOf refFile unitFile found ≡ suppliedOf refFile unitFile other
+  supplied-by-edges = three.supplied-by-edges (frontOf refFile unitFile)
 
   -- ---- what is refused, and nothing else is
 
@@ -159,6 +210,10 @@ module _ (refFile unitFile : List ℕ) where
   only-these-are-refused = three.only-these-are-refused (frontOf refFile unitFile) (front-is-lawful refFile unitFile)
 
   -- ---- what is added behind each sort of last line
+
+  -- "After a unit line all the rest is added": the first line is the only one that is kept
+  pub all-the-rest-after-the-first : suppliedBy refFile unitFile (edges (firstListed refFile unitFile) (firstListed refFile unitFile)) ≡ add (joined (restListed refFile unitFile))
+  all-the-rest-after-the-first = three.all-the-rest-after-the-first (frontOf refFile unitFile)
 
   -- after 05 nothing
   pub nothing-after-05 : (last : List ℕ) → ClosingLine kindRefused bytes05 last → suppliedBy refFile unitFile (edges (firstListed refFile unitFile) last) ≡ add []
@@ -183,12 +238,33 @@ module _ (refFile unitFile : List ℕ) where
     pub lines-run-out : skip (bigAt 2 (unhex last) numberPlace + 1) (o .lines) ≡ none → suppliedBy refFile unitFile (edges (o .first) last) ≡ add (line05 (bigAt 2 (unhex last) numberPlace + 1) missing)
     lines-run-out = rw (opened-front o) (three.lines-run-out (setupIn o) (opened-lawful o) last line)
 
-  -- ---- what is kept, and where to go on: `Keep` and `place` (the pieces in which files are read: Demand3 of `remains` and of `resuming`)
+  -- ---- what is kept, and where to go on: `Keep` and `place`
 
   -- `place`, handed the two lines that `Keep` found in a found file, answers where resuming goes on
   pub place-by-keep : (found : List ℕ) → length found ≤ mostBytes
       → placeBy (firstListed refFile unitFile) (countOf (frontOf refFile unitFile)) (countsOf (frontOf refFile unitFile)) (edgesAt (keepAll fresh found) found) ≡ place (frontOf refFile unitFile) (edgesIn found)
   place-by-keep = found.place-by-keep (frontOf refFile unitFile)
+
+-- what `Keep` knows of a found file that it has read: how many bytes are kept, which they are, and where the first and the last kept line stand
+pub keep-knows-what-is-kept : (found : List ℕ) → length found ≤ mostBytes → Known found (keepAll fresh found)
+keep-knows-what-is-kept = found.keep-knows-the-edges
+
+-- and it knows the same however the file is cut into pieces
+pub keep-by-pieces : (k : Keep) (xs ys : List ℕ) → keepAll k (xs ++ ys) ≡ keepAll (keepAll k xs) ys
+keep-by-pieces = found.keep-by-pieces
+
+-- `place` needs no more of the two lines than a buffer that is longer than the longest line holds
+pub edges-by-a-buffer : (first : List ℕ) (count : ℕ) (counts : List ℕ) (n : ℕ) (a z : List ℕ) → length first < n → mostListed + 1 < n
+    → placeBy first count counts (edgesFrom (take n a) (take n z)) ≡ placeBy first count counts (edgesFrom a z)
+edges-by-a-buffer = three.edges-by-a-buffer
+
+-- "passed over by their 0A only": the lines behind the j-th are those of what stands behind the j-th 0A
+pub skip-counts-ends : (j : ℕ) (file : List ℕ) → skip j (linesOf file) ≡ linesIn (passed j file)
+skip-counts-ends = behind.skip-counts-ends
+
+-- and `pass` finds that place, however the file is cut into pieces
+pub pass-by-pieces : (want : ℕ) (xs ys : List ℕ) → passed want (xs ++ ys) ≡ passed (passOver want xs .left) (drop (passOver want xs .at) xs ++ ys)
+pass-by-pieces = behind.pass-by-pieces
 
 -- a refused resume prints only 05, ffff and its number
 pub refused-prints-one-line : (q : List ℕ) (n : ℕ) → printed q (refuse n) ≡ line05 noRecord n

@@ -9,26 +9,27 @@ use lib.Dec.{eqb, ltb}
 use lib.ListN.{length, getD, length-append, List·getD-append}
 use lib.Seq.{getD-append-add}
 use borrow.Author.Tests.{ne-eqb, eqb-false, ltb-true, ltb-false}
+use Rattle.refusal.specs.Numbers.{missing}
 use Rattle.frame.specs.Hex.{unhex}
 use Rattle.frame.specs.Field.{bigAt}
 use Rattle.frame.specs.Line.{lineEnd}
 use Rattle.frame.proofs.HexLaws.{by-test}
 use Rattle.frame.proofs.LineLaws.{frame-is-line}
-use Rattle.unit.specs.State.{freshState}
+use Rattle.unit.specs.State.{subsequences, freshState}
 use Rattle.unit.specs.Listed.{mostListed, numberPlace}
 use Rattle.unit.specs.declared.Unit.{Unit}
 use Rattle.unit.specs.declared.State.{State}
 use Rattle.listing.specs.Lines.{pushByte, linesOf, joined, ends, WholeLine, end, more}
-use Rattle.listing.specs.Files.{wrong}
+use Rattle.listing.specs.Files.{good, wrong, pairs}
 use Rattle.listing.specs.Listing.{Front, line05, lastLine, firstOf, restOf, listed, listing, Each, none, one, ListingLine}
 use Rattle.listing.specs.Resuming.{stateAt, edges, ListedLine, add, skip}
 use Rattle.listing.specs.Turn.{Turn, go, stop, onTurn, turn, run}
 use Rattle.listing.proofs.Demand2.{one-call-a-line}
 use Rattle.listing.proofs.Demand3.{one-call-a-line-goes-on}
-use Rattle.decoder.specs.Files.{readReference, countsIn, tableOf}
+use Rattle.decoder.specs.Files.{readReference, readUnit, readPair, countsIn, tableOf}
 use Rattle.decoder.specs.Decoder.{setupOf, frontOf, listingOf, restListed, suppliedBy, Opened, setupIn}
 use Rattle.decoder.specs.Turned.{lentLine, turnOf, callsPrint, callsFor}
-use Rattle.decoder.proofs.OpenedLaws.{opened-front}
+use Rattle.decoder.proofs.OpenedLaws.{opened-front, pairs-stop}
 use Rattle.decoder.proofs.SymbolsLaws.{opened-lawful}
 
 -- ---- how long a line is
@@ -72,6 +73,39 @@ listing-bytes F = joined-bytes
 pub reference-first : (refFile unitFile : List ℕ) (n : ℕ) → readReference (linesOf refFile) ≡ wrong n → listingOf refFile unitFile ≡ line05 0 n
 unfolding frontOf listing joined firstOf restOf
 reference-first refFile unitFile n e = rw e (append-nil (line05 0 n))
+
+-- place j counted from 0 on
+from-0 : (ps : List (List ℕ)) → ((j : ℕ) → j < length ps → (row : List ℕ) × (readPair j (getD ps j []) ≡ good row)) → (j : ℕ) → j < length ps → (row : List ℕ) × (readPair (0 + j) (getD ps j []) ≡ good row)
+from-0 ps h j l = let start : 0 + j ≡ j = omega arith in rw start (h j l)
+
+module _ (refFile unitFile reference : List ℕ) (read : readReference (linesOf refFile) ≡ good reference) where
+  pub unit-missing : linesOf unitFile ≡ [] → listingOf refFile unitFile ≡ line05 0 missing
+  unfolding frontOf listing joined firstOf restOf
+  unit-missing e = rw (read, e) (append-nil (line05 0 missing))
+
+  pub unit-refused-alone : (line : List ℕ) (ls : List (List ℕ)) → linesOf unitFile ≡ line ∷ ls → (n : ℕ) → readUnit line ≡ wrong n → listingOf refFile unitFile ≡ line05 0 n
+  unfolding frontOf listing joined firstOf restOf
+  unit-refused-alone line ls e n q = rw (read, e, q) (append-nil (line05 0 n))
+
+  -- behind the unit line and those of the pair lines that are read
+  module _ (first : List ℕ) (u : Unit) (ps : List (List ℕ)) (unit : readUnit first ≡ good u) (few : length ps < subsequences)
+      (pairs-read : (j : ℕ) → j < length ps → (row : List ℕ) × (readPair j (getD ps j []) ≡ good row)) where
+    pub pair-missing : linesOf unitFile ≡ first ∷ ps → listingOf refFile unitFile ≡ first ++ line05 0 missing
+    unfolding frontOf listing joined firstOf restOf pairs
+    pair-missing e =
+        let more : subsequences ≡ length ps + suc (subsequences - suc (length ps)) = omega arith in
+        let all : linesOf unitFile ≡ first ∷ (ps ++ []) = e ∙ ap (λ (x : List (List ℕ)). first ∷ x) (sym (append-nil ps)) in
+        rw (read, all, unit, pairs-stop ps subsequences (subsequences - suc (length ps)) 0 first [] _ missing more (from-0 ps pairs-read) (λ d. refl))
+        (ap (λ (x : List ℕ). first ++ x) (append-nil (line05 0 missing)))
+
+    pub pair-refused-first : (line : List ℕ) (ls : List (List ℕ)) → linesOf unitFile ≡ first ∷ (ps ++ line ∷ ls) → (n : ℕ) → readPair (length ps) line ≡ wrong n
+        → listingOf refFile unitFile ≡ first ++ line05 0 n
+    unfolding frontOf listing joined firstOf restOf pairs
+    pair-refused-first line ls e n q =
+        let more : subsequences ≡ length ps + suc (subsequences - suc (length ps)) = omega arith in
+        let at : 0 + length ps ≡ length ps = omega arith in
+        rw (read, e, unit, pairs-stop ps subsequences (subsequences - suc (length ps)) 0 first (line ∷ ls) _ n more (from-0 ps pairs-read) (λ d. rw (at, q)))
+        (ap (λ (x : List ℕ). first ++ x) (append-nil (line05 0 n)))
 
 -- ---- calls of `turn`
 

@@ -13,7 +13,7 @@ use Rattle.unit.specs.declared.Unit.{Unit}
 use Rattle.listing.specs.Lines.{linesOf}
 use Rattle.listing.specs.Record.{Setup}
 use Rattle.listing.specs.Files.{Read, good, wrong, onRef, onLines, onUnit, onPair, pairs}
-use Rattle.listing.specs.Listing.{Front, ready}
+use Rattle.listing.specs.Listing.{Front, unpaired, ready}
 use Rattle.decoder.specs.Files.{readReference, readUnit, readPair, emptyTable, tableOf, readsInto}
 use Rattle.decoder.specs.Decoder.{setupBy, frontOf, Opened, setupIn}
 use Rattle.decoder.proofs.FilesLaws.{pair-row}
@@ -38,6 +38,24 @@ pairs-ready (suc k) i first (p ∷ ps) (row ∷ rows) lines done a b read =
     let next : (j : ℕ) → suc i + j ≡ i + suc j = λ j. omega arith in
     rw (rw start at (read 0 (omega arith)))
     (pairs-ready k (suc i) first ps rows lines (λ rs rest. done (row ∷ rs) rest) (omega arith) (omega arith) (λ j h. rw (next j) (read (suc j) (omega arith))))
+
+-- so many that are read, and then one that is refused or missing
+pub pairs-stop : (ps : List (List ℕ)) (k m i : ℕ) (first : List ℕ) (ls : List (List ℕ)) (done : List (List ℕ) → List (List ℕ) → Setup) (n : ℕ) → k ≡ length ps + suc m
+    → ((j : ℕ) → j < length ps → (row : List ℕ) × (readPair (i + j) (getD ps j []) ≡ good row))
+    → ((more : List (List ℕ) → List (List ℕ) → Setup) → pairsOf (suc m) (i + length ps) first ls more ≡ unpaired first n)
+    → pairsOf k i first (ps ++ ls) done ≡ unpaired first n
+unfolding pairs
+pairs-stop [] k m i first ls done n e read stop =
+    let q : k ≡ suc m = omega arith in
+    let start : i + 0 ≡ i = omega arith in
+    rw q (rw start at (stop done))
+pairs-stop (p ∷ ps) zero m i first ls done n e read stop = absurd (omega arith)
+pairs-stop (p ∷ ps) (suc k) m i first ls done n e read stop =
+    let start : i + 0 ≡ i = omega arith in
+    let next : (j : ℕ) → suc i + j ≡ i + suc j = λ j. omega arith in
+    let r = read 0 (omega arith) in
+    rw (rw start at (r .1))
+    (pairs-stop ps k m (suc i) first ls (λ rs rest. done (r .0 ∷ rs) rest) n (omega arith) (λ j h. rw (next j) (read (suc j) (omega arith))) (λ more. rw (next (length ps)) (stop more)))
 
 pub opened-front : {refFile unitFile : List ℕ} (o : Opened refFile unitFile) → frontOf refFile unitFile ≡ ready (setupIn o)
 unfolding frontOf

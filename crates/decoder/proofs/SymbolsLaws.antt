@@ -12,7 +12,6 @@ use lib.ListN.{length, getD, take, replicate, getD-replicate, List·getD-eq-defa
 use lib.Seq.{take-suc, take-length, length-take-le}
 use borrow.Author.Tests.{eqb-true, eqb-false, ltb-true, ltb-false}
 use Rattle.refusal.specs.Numbers.{missing}
-use Rattle.frame.specs.Hex.{unhex, be}
 use Rattle.frame.proofs.HexLaws.{by-test}
 use Rattle.frame.proofs.LineLaws.{lineOfBytes}
 use Rattle.unit.specs.State.{subsequences, freshState}
@@ -27,9 +26,9 @@ use Rattle.pairing.proofs.Laws.{pair-follows, pair-reads}
 use Rattle.record.specs.Record.{stepOf}
 use Rattle.record.proofs.RecordLaws.{step-taken, step-accepted}
 use Rattle.listing.specs.Record.{Setup, Accepted, Lawful}
-use Rattle.listing.specs.Listing.{Front, alone, unpaired, ready, line05, line06, onStep, records, onAccepted, stateBehind, firstOf, restOf, LawfulFront, Finished}
+use Rattle.listing.specs.Listing.{Front, alone, unpaired, ready, line06, onStep, records, onAccepted, stateBehind, firstOf, restOf, LawfulFront, Finished}
 use Rattle.listing.specs.Resuming.{lastFrom}
-use Rattle.listing.proofs.ListingLaws.{unhex-05, unhex-06}
+use Rattle.listing.proofs.ListingLaws.{not-06}
 use Rattle.listing.proofs.Demand2.{done-leaves-no-symbol}
 use Rattle.decoder.specs.Files.{countsIn, tableOf}
 use Rattle.decoder.specs.Decoder.{setupBy, frontOf, Opened, setupIn}
@@ -114,9 +113,9 @@ module _ (u : Unit) (reference : List ℕ) (rows : List (List ℕ)) (few : Few r
 -- ---- the state behind so many records
 
 -- it has an index for each subsequence, none above its count
-record Behind (E : Setup) (state : State) : Type 0 where
-  indexes : length (state .index) ≡ subsequences
-  within : (s : ℕ) → taken state s ≤ getD (E .counts) s 0
+pub record Behind (E : Setup) (state : State) : Type 0 where
+  pub indexes : length (state .index) ≡ subsequences
+  pub within : (s : ℕ) → taken state s ≤ getD (E .counts) s 0
 
 behind : {E : Setup} → Lawful E → (k : ℕ) (state : State) (ls : List (List ℕ)) → Behind E state → Behind E (stateBehind E k state ls)
 unfolding stateBehind
@@ -175,14 +174,6 @@ call-at {E} w (suc k) state (l ∷ ls) x (suc i) h = by (E .step state l) refl h
         let q : state .number + suc i ≡ next .number + i = omega (arith, a .number) in
         rw q (go next (a .indexes) i (omega arith))
 
--- an 05 line is no 06 line
-not-06 : (q n r : ℕ) {P : Type 0} → line05 q n ≡ line06 r → P
-unfolding be
-not-06 q n r e =
-    absurd
-    (let k : getD (unhex (line05 q n)) 0 0 ≡ getD (unhex (line06 r)) 0 0 = ap (λ (l : List ℕ). getD (unhex l) 0 0) e in
-    omega (arith, rw (unhex-05 q n, unhex-06 r) at k))
-
 -- where the last line is 06, each record has its line
 all-listed : (E : Setup) (k : ℕ) (state : State) (ls : List (List ℕ)) (z : List ℕ) (q : ℕ) → lastFrom z (records E k state ls) ≡ line06 q → length (records E k state ls) ≡ suc k
 unfolding records lastFrom
@@ -204,10 +195,10 @@ module _ {refFile unitFile : List ℕ} (o : Opened refFile unitFile) where
   opened-lawful = rw (opened-front o) at (front-is-lawful refFile unitFile)
 
   -- the state behind the first k records
-  abbrev reached : ℕ → State
+  abbrev pub reached : ℕ → State
   reached k = stateBehind (setupIn o) k freshState (o .lines)
 
-  reached-behind : (k : ℕ) → Behind (setupIn o) (reached k)
+  pub reached-behind : (k : ℕ) → Behind (setupIn o) (reached k)
   reached-behind k = behind opened-lawful k freshState (o .lines) (fresh-behind (setupIn o))
 
   -- the symbols taken are the front of the row, up to the index
@@ -216,7 +207,7 @@ module _ {refFile unitFile : List ℕ} (o : Opened refFile unitFile) where
       let q = taken-rows (o .unit) (o .reference) (o .rows) (opened-few o) (o .row-lists) (o .first) (o .lines) s known k freshState (o .lines) refl in
       rw (fresh-none s known) at q
 
-  index-taken : (s : ℕ) → s < subsequences → (k : ℕ) → taken (reached k) s ≡ length (symbolsTaken o s k)
+  pub index-taken : (s : ℕ) → s < subsequences → (k : ℕ) → taken (reached k) s ≡ length (symbolsTaken o s k)
   index-taken s known k =
       rw (taken-front s known k)
       (sym (length-take-le (taken (reached k) s) (getD (o .rows) s []) (rw (← count-at (o .rows) s) (reached-behind k .within s))))
@@ -251,7 +242,7 @@ module _ {refFile unitFile : List ℕ} (o : Opened refFile unitFile) where
       let full : taken (reached (o .unit .records)) s ≡ length (getD (o .rows) s []) = ap (λ (index : List ℕ). getD index s 0) (f .symbols) ∙ count-at (o .rows) s in
       taken-front s known (o .unit .records) ∙ rw full (take-length (getD (o .rows) s []))
 
-  opened-done : (count : ℕ) → lastFrom (firstOf (ready (setupIn o))) (restOf (ready (setupIn o))) ≡ line06 count → AllTaken o
+  pub opened-done : (count : ℕ) → lastFrom (firstOf (ready (setupIn o))) (restOf (ready (setupIn o))) ≡ line06 count → AllTaken o
   unfolding firstOf restOf
   opened-done count e =
       record {

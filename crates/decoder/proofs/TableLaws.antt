@@ -41,14 +41,6 @@ count-at (row ∷ rows) (suc i) = count-at rows i
 
 -- ---- the table
 
-pub length-rows : (rows : List (List ℕ)) (t : List ℕ) (i : ℕ) → Few rows → symbolPlace (i + length rows) 0 ≤ length t → length (rowsInto t i rows) ≡ length t
-unfolding rowsInto
-length-rows [] t i few room = refl
-length-rows (row ∷ rows) t i few room =
-    let fits : symbolPlace i 0 + length row ≤ length t = omega (arith, few 0) in
-    let long : length (storedAt t (symbolPlace i 0) row) ≡ length t = length-stored t (symbolPlace i 0) row fits in
-    length-rows rows (storedAt t (symbolPlace i 0) row) (suc i) (λ j. few (suc j)) (omega (arith, long)) ∙ long
-
 -- the places before a row are not touched by it, nor by those behind it
 rows-before : (rows : List (List ℕ)) (t : List ℕ) (i : ℕ) → Few rows → symbolPlace (i + length rows) 0 ≤ length t → (p : ℕ) → p < symbolPlace i 0 → getD (rowsInto t i rows) p 0 ≡ getD t p 0
 unfolding rowsInto
@@ -81,11 +73,6 @@ pub length-empty : length emptyTable ≡ tableLength
 length-empty = length-replicate {A = ℕ} tableLength 0
 
 module _ (rows : List (List ℕ)) (few : Few rows) (eight : length rows ≡ subsequences) where
-  pub length-table-of : length (tableOf rows) ≡ tableLength
-  unfolding tableOf
-  length-table-of =
-      length-rows rows emptyTable 0 few (omega (arith, length-empty)) ∙ length-empty
-
   -- the next symbol of a subsequence is that of its row
   pub symbol-in-row : (state : State) (s : ℕ) → taken state s < length (getD rows s []) → symbolOf (tableOf rows) state s ≡ getD (getD rows s []) (taken state s) 0
   unfolding tableOf

@@ -31,13 +31,15 @@ frontOf refFile unitFile = front readReference readUnit readPair setupBy refFile
 abbrev pub listingOf : List ℕ → List ℕ → List ℕ
 listingOf refFile unitFile = listing (frontOf refFile unitFile)
 
--- its lines: the first, and those behind it
+-- its first line
 abbrev pub firstListed : List ℕ → List ℕ → List ℕ
 firstListed refFile unitFile = firstOf (frontOf refFile unitFile)
 
+-- the lines behind the first
 abbrev pub restListed : List ℕ → List ℕ → List (List ℕ)
 restListed refFile unitFile = restOf (frontOf refFile unitFile)
 
+-- all of them
 abbrev pub linesListed : List ℕ → List ℕ → List (List ℕ)
 linesListed refFile unitFile = listed (frontOf refFile unitFile)
 
@@ -68,6 +70,7 @@ setupIn o = setupBy (o .reference) (o .unit) (o .first) (o .rows) (o .lines)
 abbrev pub suppliedBy : List ℕ → List ℕ → Edges → Answer
 suppliedBy refFile unitFile e = supply (frontOf refFile unitFile) e
 
+-- what is added, by the found file itself
 abbrev pub suppliedOf : List ℕ → List ℕ → List ℕ → Answer
 suppliedOf refFile unitFile found = suppliedBy refFile unitFile (edgesIn found)
 

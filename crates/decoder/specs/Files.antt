@@ -37,6 +37,7 @@ readReference ls = basesFrom [] ls
 
 -- ---- 01 unit
 
+-- the unit that was read, or its line's refusal
 abbrev pub unitBy : UnitLine → Read Unit
 unitBy (unit.Read u) = good u
 unitBy (unit.Refused n) = wrong n
@@ -47,6 +48,7 @@ readUnit line = unitBy (unitLine line)
 
 -- ---- 02 pair
 
+-- the symbols behind the count of a line that is accepted, or its refusal
 abbrev pub symbolsBy : List ℕ → PairLine → Read (List ℕ)
 symbolsBy line (pair.Count n) = good (symbolsAt n (unhex line) pairHead)
 symbolsBy line (pair.Refused n) = wrong n

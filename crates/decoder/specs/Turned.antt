@@ -23,7 +23,9 @@ use Rattle.decoder.specs.declared.Added.the-variants.{Go, Stop, NoRoom}
 unfoldable pub lentLine : List ℕ → Option (List ℕ)
 lentLine line = cond (eqb (length line) 0) none (some line)
 
--- the turn of a unit: it looks at neither the unit line nor the lines behind this one
+-- the turn of a unit: it looks at neither the unit line nor the lines behind this one.
+-- Where a record is wanted, the record call refuses a unit, counts or a state that no files have (3, 4, 14). Where none is, they are not looked at:
+-- `supply` alone calls `turn`, with the unit and the counts of accepted lines and a state that is fresh, a turn's own or an accepted last line's, none of them past the record count; C has no such call
 unfoldable pub turnOf : Unit → List ℕ → List ℕ → List ℕ → State → List ℕ → Turn
 turnOf u reference symbols counts state line = turn (setupOf u reference symbols counts [] []) state (lentLine line)
 
@@ -46,6 +48,7 @@ stoppedBy wrote.NoRoom state = record { added = NoRoom; state = state }
 unfoldable pub turnedOf : List ℕ → State → Turn → Turned
 turnedOf out state t = cond (ltb mostListed (length out)) (turned state t) (record { added = NoRoom; state = state })
 
+-- and what is lent, likewise
 unfoldable pub outputOf : List ℕ → Turn → List ℕ
 outputOf out t = cond (ltb mostListed (length out)) (printedInto out t) out
 
@@ -55,7 +58,7 @@ addedNumber (Go n) = fine
 addedNumber (Stop n) = fine
 addedNumber NoRoom = noRoom
 
--- what so many calls print: one a line of the unit file, and behind the last line the end of the file
+-- what so many calls print: one a line of the unit file, and behind the last line the end of the file; `run` of `listing`, by what the public `turn` promises
 unfoldable pub callsPrint : Unit → List ℕ → List ℕ → List ℕ → ℕ → State → List (List ℕ) → List ℕ
 callsPrint u reference symbols counts zero state ls = []
 callsPrint u reference symbols counts (suc k) state [] =

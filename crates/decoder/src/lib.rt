@@ -1,10 +1,10 @@
 // The decoder as a whole: each line that is added to a listing, by one call a line of the unit file.
 use listing::close;
 use record::Answer;
-use writing::lay::Wrote;
 use unit::State;
 use unit::Unit;
 use unit::listed::ListedLine;
+use writing::lay::Wrote;
 ghost use mathlib.Core.Path.{_≡_};
 ghost use mathlib.Core.List.{[]};
 ghost use Prim.Native.Nat.{_<_};

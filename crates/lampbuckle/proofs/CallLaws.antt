@@ -7,8 +7,8 @@ use native.Mathlib.Omega.{arith}
 use lib.Dec.{eqb, ltb}
 use lib.IntN.{ℤ, pos}
 use lib.ListN.{length}
-use borrow.Author.Tests.{ltb-true, eqb-true, eqb-false, eq-eqb, ne-eqb}
-use Rattle.refusal.specs.Numbers.{fine, unitOut}
+use borrow.Author.Tests.{ltb-true, eqb-true, eqb-false, eq-eqb}
+use Rattle.refusal.specs.Numbers.{fine}
 use Rattle.frame.proofs.HexLaws.{by-test}
 use Rattle.unit.specs.Unit.{mostRecords}
 use Rattle.unit.specs.Listed.{Step, refused, accepted}
@@ -74,50 +74,46 @@ room-taken (accepted g s) room frame next e =
     rw (← q) (ltb-true (2 * length g) room t))
     (λ t. absurd (differs (simp t at e)))
 
-module _ (u : Unit) (reference symbols all state line : List ℕ) (room : ℕ) {frame : List ℕ} {next : State}
-    (e : recordOf u reference symbols all (stateOf state) line room ≡ accepted frame next) where
+module _ (u : Unit) (reference symbols counts state line : List ℕ) (room : ℕ) {frame : List ℕ} {next : State}
+    (e : recordOf u reference symbols counts (stateOf state) line room ≡ accepted frame next) where
   -- what is lent is accepted
-  lent-fine : lentRefusal u (length reference) (length symbols) all (stateOf state) ≡ fine
+  lent-fine : lentRefusal u (length reference) (length symbols) counts (stateOf state) ≡ fine
   lent-fine =
-      by-test (eqb (lentRefusal u (length reference) (length symbols) all (stateOf state)) fine)
+      by-test (eqb (lentRefusal u (length reference) (length symbols) counts (stateOf state)) fine)
       (λ t. eqb-true _ _ t)
-      (λ t. absurd (differs (sym (lent-refused u reference symbols all (stateOf state) refl line room (eqb-false _ _ t)) ∙ e)))
+      (λ t. absurd (differs (sym (lent-refused u reference symbols counts (stateOf state) refl line room (eqb-false _ _ t)) ∙ e)))
 
   -- so the state is nine numbers: others are a state that no unit has
   state-nine : length state ≡ stateLength
   unfolding stateOf
   state-nine =
-      let h : stateOf state .number < mostRecords = number-fits u reference symbols all (stateOf state) refl lent-fine in
+      let h : stateOf state .number < mostRecords = number-fits u reference symbols counts (stateOf state) refl lent-fine in
       by-test (eqb (length state) stateLength)
       (λ t. eqb-true _ _ t)
       (λ t. let s : stateOf state .number ≡ mostRecords = rw t in absurd (omega (arith, h, s)))
 
 -- ---- the call
 
-module _ (unit reference symbols all state line out : List ℕ) where
-  pub record-misshapen : {a : ℤ} → (length unit ≡ unitLength → ⊥) → a ≡ minus unitOut → outcome a (state ∷ out ∷ []) ≡ recordCall unit reference symbols all state line out
-  unfolding recordCall
-  record-misshapen h e = rw (ne-eqb _ _ h, e)
-
+module _ (unit reference symbols counts state line out : List ℕ) where
   module _ {u : Unit} {given : State} (is-unit : u ≡ unitOf unit) (is-state : given ≡ stateOf state) {r : Recorded} {after : List ℕ}
-      (is : (r ≡ recorded given (recordOf u reference symbols all given line (length out))) × (after ≡ output out (recordOf u reference symbols all given line (length out)))) {n : ℕ} where
-    pub record-refused : {a : ℤ} → length unit ≡ unitLength → r .answer ≡ answer.Refused n → a ≡ minus n → outcome a (state ∷ after ∷ []) ≡ recordCall unit reference symbols all state line out
+      (is : (r ≡ recorded given (recordOf u reference symbols counts given line (length out))) × (after ≡ output out (recordOf u reference symbols counts given line (length out)))) {n : ℕ} where
+    pub record-refused : {a : ℤ} → length unit ≡ unitLength → r .answer ≡ answer.Refused n → a ≡ minus n → outcome a (state ∷ after ∷ []) ≡ recordCall unit reference symbols counts state line out
     unfolding recordCall
-    record-refused shape h e = rw (eq-eqb _ _ shape, ← is-unit, ← is-state) (step-refused given (recordOf u reference symbols all given line (length out)) state out (is .0) (is .1) h e)
+    record-refused shape h e = rw (eq-eqb _ _ shape, ← is-unit, ← is-state) (step-refused given (recordOf u reference symbols counts given line (length out)) state out (is .0) (is .1) h e)
 
     pub record-listed : {a : ℤ} {lent : List ℕ} → length unit ≡ unitLength → r .answer ≡ answer.Listed n → lent ≡ stateNumbers (r .state) → a ≡ pos n
-        → outcome a (lent ∷ after ∷ []) ≡ recordCall unit reference symbols all state line out
+        → outcome a (lent ∷ after ∷ []) ≡ recordCall unit reference symbols counts state line out
     unfolding recordCall
-    record-listed shape h l e = rw (eq-eqb _ _ shape, ← is-unit, ← is-state) (step-listed given (recordOf u reference symbols all given line (length out)) state out (is .0) (is .1) h l e)
+    record-listed shape h l e = rw (eq-eqb _ _ shape, ← is-unit, ← is-state) (step-listed given (recordOf u reference symbols counts given line (length out)) state out (is .0) (is .1) h l e)
 
     -- a line has fewer bytes than are lent
     pub record-counted : r .answer ≡ answer.Listed n → length out < 2 ^ 63 → n < 2 ^ 63
     unfolding recordOf
     record-counted h k =
-        let w = listed-is given (recordOf u reference symbols all given line (length out)) (is .0) h in
-        omega (arith, w .long, room-taken (stepOf u reference symbols all given line) (length out) (w .frame) (w .next) (w .step))
+        let w = listed-is given (recordOf u reference symbols counts given line (length out)) (is .0) h in
+        omega (arith, w .long, room-taken (stepOf u reference symbols counts given line) (length out) (w .frame) (w .next) (w .step))
 
     pub record-nine : r .answer ≡ answer.Listed n → length state ≡ stateLength
     record-nine h =
-        let w = listed-is given (recordOf u reference symbols all given line (length out)) (is .0) h in
-        state-nine u reference symbols all state line (length out) {frame = w .frame} {next = w .next} (rw (← is-state) (w .step))
+        let w = listed-is given (recordOf u reference symbols counts given line (length out)) (is .0) h in
+        state-nine u reference symbols counts state line (length out) {frame = w .frame} {next = w .next} (rw (← is-state) (w .step))

@@ -27,16 +27,12 @@ use Rattle.resuming.specs.Last.{placedOf}
 use Rattle.listing.specs.Resuming.{edgesFrom, placeBy}
 use Rattle.resuming.specs.declared.place.Go.{Go}
 use Rattle.resuming.specs.declared.place.Go.the-variants.{Afresh, Second, On, Over, Refused}
-use Rattle.lampbuckle.specs.Answer.{Outcome}
+use Rattle.lampbuckle.specs.Answer.{Outcome, Kept}
 use Rattle.lampbuckle.specs.Numbers.{unitLength, unitOf, unitNumbersRefusal, stateLength, stateOf, keepLength}
 use Rattle.lampbuckle.specs.Lines.{unitAnswered, unitCall, pairAnswered, pairCall, referenceAnswered, referenceCall}
 use Rattle.lampbuckle.specs.Call.{recordAnswered, recordCall}
 use Rattle.lampbuckle.specs.Write.{writtenCall, unitWritten}
 use Rattle.lampbuckle.specs.Resume.{keepCall, byGo, placeCall, wantedLength, passCall}
-
--- where the answer is negative, what is lent is as it was
-abbrev pub Kept : Outcome → List (List ℕ) → Type 0
-Kept x lent = (n : ℕ) → x .answer ≡ negsuc n → x .lent ≡ lent
 
 -- ---- by the form of an outcome
 
@@ -57,11 +53,11 @@ unit-kept line lent = kept-test (eqb (length lent) unitLength) (by (unitLine lin
     by (unit.Read u) k e = absurd (no-counts e)
     by (unit.Refused n) k e = refl
 
-pub pair-kept : (line : List ℕ) (number : ℕ) (table all : List ℕ) → Kept (pairCall line number table all) (table ∷ all ∷ [])
+pub pair-kept : (line : List ℕ) (number : ℕ) (table counts : List ℕ) → Kept (pairCall line number table counts) (table ∷ counts ∷ [])
 unfolding pairCall
-pair-kept line number table all = kept-test (eqb (length all) subsequences) (by (pairLine line number (length table))) (λ k e. refl)
+pair-kept line number table counts = kept-test (eqb (length counts) subsequences) (by (pairLine line number (length table))) (λ k e. refl)
   where
-    by : (r : PairLine) → Kept (pairAnswered r line number table all) (table ∷ all ∷ [])
+    by : (r : PairLine) → Kept (pairAnswered r line number table counts) (table ∷ counts ∷ [])
     by (pair.Count n) k e = absurd (no-counts e)
     by (pair.Refused n) k e = refl
 
@@ -73,10 +69,10 @@ reference-kept line lent used = by (referenceLine line used (length lent))
     by (reference.Bases n) k e = absurd (no-counts e)
     by (reference.Refused n) k e = refl
 
-pub record-kept : (numbers bases symbols all state line out : List ℕ) → Kept (recordCall numbers bases symbols all state line out) (state ∷ out ∷ [])
+pub record-kept : (numbers bases symbols counts state line out : List ℕ) → Kept (recordCall numbers bases symbols counts state line out) (state ∷ out ∷ [])
 unfolding recordCall
-record-kept numbers bases symbols all state line out =
-    kept-test (eqb (length numbers) unitLength) (by (recordOf (unitOf numbers) bases symbols all (stateOf state) line (length out))) (λ k e. refl)
+record-kept numbers bases symbols counts state line out =
+    kept-test (eqb (length numbers) unitLength) (by (recordOf (unitOf numbers) bases symbols counts (stateOf state) line (length out))) (λ k e. refl)
   where
     by : (x : Step) → Kept (recordAnswered x state out) (state ∷ out ∷ [])
     by (refused n) k e = refl
@@ -97,11 +93,11 @@ pub keep-kept : (piece lent : List ℕ) → Kept (keepCall piece lent) (lent ∷
 unfolding keepCall
 keep-kept piece lent = kept-test (eqb (length lent) keepLength) (λ k e. absurd (no-counts e)) (λ k e. refl)
 
-pub place-kept : (listed : List ℕ) (count : ℕ) (all first last lent : List ℕ) → Kept (placeCall listed count all first last lent) (lent ∷ [])
+pub place-kept : (listed : List ℕ) (count : ℕ) (counts first last lent : List ℕ) → Kept (placeCall listed count counts first last lent) (lent ∷ [])
 unfolding placeCall
-place-kept listed count all first last lent =
-    let p = placedOf (placeBy listed count all (edgesFrom first last)) in
-    kept-test (eqb (length all) subsequences) (kept-test (eqb (length lent) stateLength) (by (p .go) (p .state)) (λ k e. refl)) (λ k e. refl)
+place-kept listed count counts first last lent =
+    let p = placedOf (placeBy listed count counts (edgesFrom first last)) in
+    kept-test (eqb (length counts) subsequences) (kept-test (eqb (length lent) stateLength) (by (p .go) (p .state)) (λ k e. refl)) (λ k e. refl)
   where
     by : (go : Go) (next : State) → Kept (byGo go next lent) (lent ∷ [])
     by Afresh next k e = absurd (no-counts e)

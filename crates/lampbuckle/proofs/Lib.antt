@@ -5,5 +5,6 @@ pub mod CallLaws
 pub mod WriteLaws
 pub mod ResumeLaws
 pub mod Kept
+pub mod Again
 pub mod Shapes
 pub mod Unique

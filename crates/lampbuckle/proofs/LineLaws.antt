@@ -6,8 +6,7 @@ use Prim.Native.Nat.{ℕ, _^_, _<_}
 use native.Mathlib.Omega.{arith}
 use lib.IntN.{ℤ, pos}
 use lib.ListN.{length, set}
-use borrow.Author.Tests.{eq-eqb, ne-eqb}
-use Rattle.refusal.specs.Numbers.{unitOut, countOut}
+use borrow.Author.Tests.{eq-eqb}
 use Rattle.unit.specs.State.{subsequences}
 use Rattle.preface.specs.UnitLine.{unitLine}
 use Rattle.preface.specs.PairLine.{pairLine, tableAfter}
@@ -28,10 +27,6 @@ use Rattle.lampbuckle.specs.Lines.{unitCall, pairCall, referenceCall}
 -- ---- the unit line
 
 module _ {a : ℤ} (line lent : List ℕ) where
-  pub unit-misshapen : (length lent ≡ unitLength → ⊥) → a ≡ minus unitOut → outcome a (lent ∷ []) ≡ unitCall line lent
-  unfolding unitCall
-  unit-misshapen h e = rw (ne-eqb _ _ h, e)
-
   module _ (shape : length lent ≡ unitLength) {r : UnitLine} (is : r ≡ unitLine line) where
     pub unit-refused : {n : ℕ} → r ≡ unit.Refused n → a ≡ minus n → outcome a (lent ∷ []) ≡ unitCall line lent
     unfolding unitCall
@@ -43,24 +38,20 @@ module _ {a : ℤ} (line lent : List ℕ) where
 
 -- ---- a pair line
 
-module _ (line : List ℕ) (number : ℕ) (table all : List ℕ) where
-  pub pair-misshapen : {a : ℤ} → (length all ≡ subsequences → ⊥) → a ≡ minus countOut → outcome a (table ∷ all ∷ []) ≡ pairCall line number table all
-  unfolding pairCall
-  pair-misshapen h e = rw (ne-eqb _ _ h, e)
-
-  module _ (shape : length all ≡ subsequences) {r : PairLine} {after : List ℕ} (is : (r ≡ pairLine line number (length table)) × (after ≡ tableAfter line number table)) where
-    pub pair-refused : {a : ℤ} {n : ℕ} → r ≡ pair.Refused n → a ≡ minus n → outcome a (after ∷ all ∷ []) ≡ pairCall line number table all
+module _ (line : List ℕ) (number : ℕ) (table counts : List ℕ) where
+  module _ (shape : length counts ≡ subsequences) {r : PairLine} {after : List ℕ} (is : (r ≡ pairLine line number (length table)) × (after ≡ tableAfter line number table)) where
+    pub pair-refused : {a : ℤ} {n : ℕ} → r ≡ pair.Refused n → a ≡ minus n → outcome a (after ∷ counts ∷ []) ≡ pairCall line number table counts
     unfolding pairCall
     pair-refused {a} {n} h e =
         let same : after ≡ table = is .1 ∙ sym (table-kept line number n table h (is .0) .1) in
         rw (eq-eqb _ _ shape, ← is .0, h, e, same)
 
-    pub pair-read : {a : ℤ} {n : ℕ} → r ≡ pair.Count n → a ≡ pos n → outcome a (after ∷ set all number n ∷ []) ≡ pairCall line number table all
+    pub pair-read : {a : ℤ} {n : ℕ} → r ≡ pair.Count n → a ≡ pos n → outcome a (after ∷ set counts number n ∷ []) ≡ pairCall line number table counts
     unfolding pairCall
     pair-read h e = rw (eq-eqb _ _ shape, ← is .0, h, e, is .1)
 
     -- an accepted line's number has its place among the counts
-    pub pair-place : {n : ℕ} → r ≡ pair.Count n → number < length all
+    pub pair-place : {n : ℕ} → r ≡ pair.Count n → number < length counts
     pair-place {n} h = let w = pair-accepted line number (length table) n (sym h ∙ is .0) in omega (arith, w .row)
 
 -- ---- a reference line

@@ -1,25 +1,24 @@
 -- The laws of the calls for going on: each way that a call ends, from what the listing's own functions answered.
 -- Assumes nothing.
 use mathlib.Core.Path.{_≡_}
-use mathlib.Core.Bool.{Bool, true, false, cond}
+use mathlib.Core.Bool.{Bool, true, false}
 use mathlib.Core.List.{List, [], _∷_}
-use Prim.Native.Nat.{ℕ, zero, suc, _-_, _^_, _<_, _≤_}
+use Prim.Native.Nat.{ℕ, _^_, _<_}
 use native.Mathlib.Omega.{arith}
-use lib.Dec.{eqb, eqb·suc-zero, lit<}
+use lib.Dec.{lit<}
 use lib.IntN.{ℤ, pos}
 use lib.ListN.{length, getD}
-use borrow.Author.Tests.{eq-eqb, ne-eqb}
-use Rattle.refusal.specs.Numbers.{countOut, missing}
-use Rattle.frame.specs.Line.{lineEnd}
+use borrow.Author.Tests.{eq-eqb}
 use Rattle.unit.specs.State.{subsequences}
 use Rattle.remains.specs.Keep.{keepAll}
 use Rattle.resuming.specs.Pass.{passOver}
+use Rattle.resuming.proofs.PassLaws.{pass-within}
 use Rattle.listing.specs.Resuming.{edgesFrom, placeBy}
 use Rattle.resuming.specs.Last.{placedOf}
 use Rattle.remains.specs.declared.keep.Keep.{Keep}
 use Rattle.resuming.specs.declared.pass.Passed.{Passed}
 use Rattle.resuming.specs.declared.place.Placed.{Placed}
-use Rattle.lampbuckle.specs.Answer.{minus, Outcome, outcome}
+use Rattle.lampbuckle.specs.Answer.{Outcome, outcome}
 use Rattle.lampbuckle.specs.Numbers.{stateLength, keepLength, flag, keepNumbers, keepOf}
 use Rattle.lampbuckle.specs.Resume.{keepCall, byGo, placeCall, wantedLength, passCall}
 
@@ -30,10 +29,6 @@ flag-counted true e = rw e (lit< tt)
 flag-counted false e = rw e (lit< tt)
 
 module _ (piece lent : List ℕ) {a : ℤ} where
-  pub keep-misshapen : (length lent ≡ keepLength → ⊥) → a ≡ minus missing → outcome a (lent ∷ []) ≡ keepCall piece lent
-  unfolding keepCall
-  keep-misshapen h e = rw (ne-eqb _ _ h, e)
-
   pub keep-gone : length lent ≡ keepLength → {before k : Keep} {after : List ℕ} {n : ℕ} → before ≡ keepOf lent → k ≡ keepAll before piece → after ≡ keepNumbers k → n ≡ flag (k .done) → a ≡ pos n
       → outcome a (after ∷ []) ≡ keepCall piece lent
   unfolding keepCall
@@ -41,39 +36,19 @@ module _ (piece lent : List ℕ) {a : ℤ} where
 
 -- ---- where to go on
 
-module _ (listed : List ℕ) (count : ℕ) (all first last lent : List ℕ) where
-  pub place-counts : {a : ℤ} → (length all ≡ subsequences → ⊥) → a ≡ minus countOut → outcome a (lent ∷ []) ≡ placeCall listed count all first last lent
-  unfolding placeCall
-  place-counts h e = rw (ne-eqb _ _ h, e)
-
-  module _ (shape : length all ≡ subsequences) where
-    pub place-misshapen : {a : ℤ} → (length lent ≡ stateLength → ⊥) → a ≡ minus missing → outcome a (lent ∷ []) ≡ placeCall listed count all first last lent
-    unfolding placeCall
-    place-misshapen h e = rw (eq-eqb _ _ shape, ne-eqb _ _ h, e)
-
-    pub place-found : length lent ≡ stateLength → {c : List ℕ} {p : Placed} {x : Outcome} → c ≡ all → p ≡ placedOf (placeBy listed count c (edgesFrom first last)) → x ≡ byGo (p .go) (p .state) lent
-        → x ≡ placeCall listed count all first last lent
+module _ (listed : List ℕ) (count : ℕ) (counts first last lent : List ℕ) where
+  module _ (shape : length counts ≡ subsequences) where
+    pub place-found : length lent ≡ stateLength → {c : List ℕ} {p : Placed} {x : Outcome} → c ≡ counts → p ≡ placedOf (placeBy listed count c (edgesFrom first last)) → x ≡ byGo (p .go) (p .state) lent
+        → x ≡ placeCall listed count counts first last lent
     unfolding placeCall
     place-found h c p e = rw (eq-eqb _ _ shape, eq-eqb _ _ h, ← c, ← p) e
 
 -- ---- lines passed over
 
--- no more than there is
-pass-inside : (w : ℕ) (xs : List ℕ) → passOver w xs .at ≤ length xs
-unfolding passOver
-pass-inside w [] = omega arith
-pass-inside zero (x ∷ xs) = omega arith
-pass-inside (suc w) (x ∷ xs) =
-    let h = pass-inside (cond (eqb x lineEnd) (suc w - 1) (suc w)) xs in rw (eqb·suc-zero w) (omega (arith, h))
-
 module _ (piece lent : List ℕ) where
-  pub pass-misshapen : {a : ℤ} → (length lent ≡ wantedLength → ⊥) → a ≡ minus missing → outcome a (lent ∷ []) ≡ passCall piece lent
-  unfolding passCall
-  pass-misshapen h e = rw (ne-eqb _ _ h, e)
-
   module _ {p : Passed} (is : p ≡ passOver (getD lent 0 0) piece) where
     pub pass-counted : length piece < 2 ^ 63 → p .at < 2 ^ 63
-    pass-counted h = rw is (omega (arith, pass-inside (getD lent 0 0) piece))
+    pass-counted h = rw is (omega (arith, pass-within (getD lent 0 0) piece))
 
     pub pass-gone : length lent ≡ wantedLength → {a : ℤ} {after : List ℕ} → after ≡ p .left ∷ [] → a ≡ pos (p .at) → outcome a (after ∷ []) ≡ passCall piece lent
     unfolding passCall

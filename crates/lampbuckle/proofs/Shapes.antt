@@ -24,18 +24,18 @@ use Rattle.lampbuckle.specs.Call.{recordCall}
 abbrev pub orMissing : ℕ → ℕ
 orMissing n = cond (eqb n fine) missing n
 
-module _ (u : Unit) (bases places : ℕ) (all : List ℕ) (s : State) where
+module _ (u : Unit) (bases places : ℕ) (counts : List ℕ) (s : State) where
   -- among states alone
-  state-behind : u .records ≤ mostRecords → stateRefusal u all noState ≡ orMissing (stateRefusal u all s)
+  state-behind : u .records ≤ mostRecords → stateRefusal u counts noState ≡ orMissing (stateRefusal u counts s)
   unfolding stateRefusal
   state-behind h =
       rw (le-leb (u .records) mostRecords h)
       (by-test (leb (u .records) (s .number))
       (λ t. rw t)
-      (λ t. rw t (by-test (within (s .index) all) (λ i. rw i) (λ i. rw i))))
+      (λ t. rw t (by-test (within (s .index) counts) (λ i. rw i) (λ i. rw i))))
 
   -- behind the unit, the reference, the table and the counts
-  pub state-in-its-place : lentRefusal u bases places all noState ≡ orMissing (lentRefusal u bases places all s)
+  pub state-in-its-place : lentRefusal u bases places counts noState ≡ orMissing (lentRefusal u bases places counts s)
   unfolding lentRefusal
   state-in-its-place =
       by-test (eqb (unitRefusal u) fine)
@@ -44,19 +44,19 @@ module _ (u : Unit) (bases places : ℕ) (all : List ℕ) (s : State) where
       (λ a. rw a
       (by-test (eqb places tableLength)
       (λ b. rw b
-      (by-test (eqb (length all) subsequences)
-      (λ c. rw c (by-test (countsOut all) (λ d. rw d) (λ d. rw d (state-behind (valid-is u (eqb-true _ _ t) .records)))))
+      (by-test (eqb (length counts) subsequences)
+      (λ c. rw c (by-test (countsOut counts) (λ d. rw d) (λ d. rw d (state-behind (valid-is u (eqb-true _ _ t) .records)))))
       (λ c. rw c)))
       (λ b. rw b)))))
       (λ t. rw (t, t))
 
 -- the call with such a state: refused, and nothing differs
-pub state-misshapen : (numbers reference symbols all state line out : List ℕ) (s : State) → length numbers ≡ unitLength → (length state ≡ stateLength → ⊥)
-    → recordCall numbers reference symbols all state line out ≡ refuses (orMissing (lentRefusal (unitOf numbers) (length reference) (length symbols) all s)) (state ∷ out ∷ [])
+pub state-misshapen : (numbers reference symbols counts state line out : List ℕ) (s : State) → length numbers ≡ unitLength → (length state ≡ stateLength → ⊥)
+    → recordCall numbers reference symbols counts state line out ≡ refuses (orMissing (lentRefusal (unitOf numbers) (length reference) (length symbols) counts s)) (state ∷ out ∷ [])
 unfolding recordCall stateOf
-state-misshapen numbers reference symbols all state line out s h k =
-    let place = state-in-its-place (unitOf numbers) (length reference) (length symbols) all s in
-    let refusal = lent-refused (unitOf numbers) reference symbols all noState (sym place) line (length out) (some (lentRefusal (unitOf numbers) (length reference) (length symbols) all s)) in
+state-misshapen numbers reference symbols counts state line out s h k =
+    let place = state-in-its-place (unitOf numbers) (length reference) (length symbols) counts s in
+    let refusal = lent-refused (unitOf numbers) reference symbols counts noState (sym place) line (length out) (some (lentRefusal (unitOf numbers) (length reference) (length symbols) counts s)) in
     rw (eq-eqb _ _ h, ne-eqb _ _ k, refusal)
   where
     some : (n : ℕ) → orMissing n ≡ fine → ⊥

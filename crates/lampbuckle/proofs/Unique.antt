@@ -1,17 +1,15 @@
 -- Each call's promise admits one outcome: two outcomes that keep it, each an answer and every lent slice after the call, are the same.
 -- Assumes nothing.
-use mathlib.Core.Path.{_≡_, sym, _∙_}
+use mathlib.Core.Path.{_≡_}
 use mathlib.Core.List.{List}
 use Prim.Native.Nat.{ℕ}
+use Rattle.frame.proofs.Unique.{once}
 use Rattle.listing.specs.Listing.{frame05, frame06}
 use Rattle.lampbuckle.specs.Answer.{Outcome}
 use Rattle.lampbuckle.specs.Lines.{unitCall, pairCall, referenceCall}
 use Rattle.lampbuckle.specs.Call.{recordCall}
 use Rattle.lampbuckle.specs.Write.{writtenCall, unitWritten}
 use Rattle.lampbuckle.specs.Resume.{keepCall, placeCall, passCall}
-
-once : {x y z : Outcome} → x ≡ z → y ≡ z → x ≡ y
-once p q = p ∙ sym q
 
 module _ {x y : Outcome} where
   pub unit-line-once : (line unit : List ℕ) → x ≡ unitCall line unit → y ≡ unitCall line unit → x ≡ y

@@ -8,7 +8,7 @@ use lib.Dec.{ltb}
 use lib.IntN.{ℤ}
 use lib.ListN.{length}
 use borrow.Author.Tests.{ltb-true, eq-eqb, ne-eqb}
-use Rattle.refusal.specs.Numbers.{fine, unitOut}
+use Rattle.refusal.specs.Numbers.{fine}
 use Rattle.writing.specs.Whole.{wroteOf, lineInto}
 use Rattle.writing.specs.declared.lay.Wrote.{Wrote}
 use Rattle.frame.proofs.HexLaws.{by-test}
@@ -36,10 +36,6 @@ module _ (frame out : List ℕ) {r : Wrote} {after : List ℕ} (is : (r ≡ wrot
 -- ---- the unit line
 
 module _ (numbers out : List ℕ) {a : ℤ} where
-  pub unit-misshapen : (length numbers ≡ unitLength → ⊥) → a ≡ minus unitOut → outcome a (out ∷ []) ≡ unitWritten numbers out
-  unfolding unitWritten unitNumbersRefusal
-  unit-misshapen h e = rw (ne-eqb _ _ h, e)
-
   module _ (shape : length numbers ≡ unitLength) {u : Unit} (is : u ≡ unitOf numbers) {n : ℕ} (by : n ≡ unitRefusal u) where
     pub unit-refused : (n ≡ fine → ⊥) → a ≡ minus n → outcome a (out ∷ []) ≡ unitWritten numbers out
     unfolding unitWritten unitNumbersRefusal

@@ -8,17 +8,17 @@ use lib.ListN.{length}
 use Rattle.refusal.specs.Numbers.{unitOut}
 use Rattle.unit.specs.Listed.{Step, refused, accepted}
 use Rattle.record.specs.Record.{recordOf, output}
-use Rattle.lampbuckle.specs.Answer.{Outcome, counts, refuses}
+use Rattle.lampbuckle.specs.Answer.{Outcome, answers, refuses}
 use Rattle.lampbuckle.specs.Numbers.{unitLength, unitOf, stateOf, stateNumbers}
 
 -- the line's bytes, its 0A among them, with the next state and the line; or a refusal
 abbrev pub recordAnswered : Step → List ℕ → List ℕ → Outcome
 recordAnswered (refused n) state out = refuses n (state ∷ out ∷ [])
-recordAnswered (accepted frame next) state out = counts (2 * length frame + 1) (stateNumbers next ∷ output out (accepted frame next) ∷ [])
+recordAnswered (accepted frame next) state out = answers (2 * length frame + 1) (stateNumbers next ∷ output out (accepted frame next) ∷ [])
 
 -- a unit that is not eight numbers is refused by 3, before all else; a state that is not nine by 14, where the call refuses a state
 unfoldable pub recordCall : List ℕ → List ℕ → List ℕ → List ℕ → List ℕ → List ℕ → List ℕ → Outcome
-recordCall unit reference symbols all state line out =
+recordCall unit reference symbols counts state line out =
     cond (eqb (length unit) unitLength)
-    (recordAnswered (recordOf (unitOf unit) reference symbols all (stateOf state) line (length out)) state out)
+    (recordAnswered (recordOf (unitOf unit) reference symbols counts (stateOf state) line (length out)) state out)
     (refuses unitOut (state ∷ out ∷ []))

@@ -16,14 +16,14 @@ use Rattle.preface.specs.declared.pair_line.PairLine.{PairLine}
 use Rattle.preface.specs.declared.pair_line.PairLine.the-variants as pair
 use Rattle.preface.specs.declared.reference_line.ReferenceLine.{ReferenceLine}
 use Rattle.preface.specs.declared.reference_line.ReferenceLine.the-variants as reference
-use Rattle.lampbuckle.specs.Answer.{Outcome, counts, refuses}
+use Rattle.lampbuckle.specs.Answer.{Outcome, answers, refuses}
 use Rattle.lampbuckle.specs.Numbers.{unitLength, unitNumbers}
 
 -- ---- the unit line
 
 -- the line's bytes, and the unit's numbers
 abbrev pub unitAnswered : UnitLine → List ℕ → List ℕ → Outcome
-unitAnswered (unit.Read u) line lent = counts (length line) (unitNumbers u ∷ [])
+unitAnswered (unit.Read u) line lent = answers (length line) (unitNumbers u ∷ [])
 unitAnswered (unit.Refused n) line lent = refuses n (lent ∷ [])
 
 -- a place for another number of values is refused by 3, before the line is looked at
@@ -35,22 +35,23 @@ unitCall line lent =
 
 -- the symbol count; the symbols in their row of the table, and the count in its place among the counts
 abbrev pub pairAnswered : PairLine → List ℕ → ℕ → List ℕ → List ℕ → Outcome
-pairAnswered (pair.Count n) line number table all = counts n (tableAfter line number table ∷ set all number n ∷ [])
-pairAnswered (pair.Refused n) line number table all = refuses n (table ∷ all ∷ [])
+pairAnswered (pair.Count n) line number table counts = answers n (tableAfter line number table ∷ set counts number n ∷ [])
+pairAnswered (pair.Refused n) line number table counts = refuses n (table ∷ counts ∷ [])
 
 -- counts of another shape are refused by 4, before the line is looked at
 unfoldable pub pairCall : List ℕ → ℕ → List ℕ → List ℕ → Outcome
-pairCall line number table all =
-    cond (eqb (length all) subsequences)
-    (pairAnswered (pairLine line number (length table)) line number table all)
-    (refuses countOut (table ∷ all ∷ []))
+pairCall line number table counts =
+    cond (eqb (length counts) subsequences)
+    (pairAnswered (pairLine line number (length table)) line number table counts)
+    (refuses countOut (table ∷ counts ∷ []))
 
 -- ---- a reference line
 
 -- how many bases are there now; the line's behind those that were used
 abbrev pub referenceAnswered : ReferenceLine → List ℕ → List ℕ → ℕ → Outcome
-referenceAnswered (reference.Bases n) line lent used = counts n (referenceAfter line used lent ∷ [])
+referenceAnswered (reference.Bases n) line lent used = answers n (referenceAfter line used lent ∷ [])
 referenceAnswered (reference.Refused n) line lent used = refuses n (lent ∷ [])
 
+-- the lent reference has room for as many bases as are lent; of its first `used` ones nothing differs
 unfoldable pub referenceCall : List ℕ → List ℕ → ℕ → Outcome
 referenceCall line lent used = referenceAnswered (referenceLine line used (length lent)) line lent used

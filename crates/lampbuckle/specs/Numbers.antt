@@ -12,10 +12,11 @@ use Rattle.unit.specs.declared.Unit.{Unit}
 use Rattle.unit.specs.declared.State.{State}
 use Rattle.remains.specs.declared.keep.Keep.{Keep}
 
--- the numbers of a unit: the values of the unit line, in its order (document 01, Lines: 01 unit)
+-- how many numbers a unit is
 abbrev pub unitLength : ℕ
 unitLength = 8
 
+-- the numbers of a unit: the values of the unit line, in its order (document 01, Lines: 01 unit)
 abbrev pub unitNumbers : Unit → List ℕ
 unitNumbers u =
     u .class ∷ u .alphabet ∷ u .segments ∷ u .sequence ∷ u .first ∷ u .start ∷ u .end ∷ u .records ∷ []
@@ -38,10 +39,11 @@ unitOf numbers =
 unfoldable pub unitNumbersRefusal : List ℕ → ℕ
 unitNumbersRefusal numbers = cond (eqb (length numbers) unitLength) (unitRefusal (unitOf numbers)) unitOut
 
--- the numbers of a state: the record number and the eight indexes (document 01, Order)
+-- how many numbers a state is
 abbrev pub stateLength : ℕ
 stateLength = suc subsequences
 
+-- the numbers of a state: the record number and the eight indexes (document 01, Order)
 abbrev pub stateNumbers : State → List ℕ
 stateNumbers st = st .number ∷ st .index
 
@@ -53,7 +55,7 @@ noState = record { number = mostRecords; index = replicate subsequences 0 }
 unfoldable pub stateOf : List ℕ → State
 stateOf numbers = cond (eqb (length numbers) stateLength) (record { number = getD numbers 0 0; index = drop 1 numbers }) noState
 
--- the numbers of what is known of a found file: the length of its first kept line, where its last kept line starts, how many bytes are kept, how many are counted, and whether nothing that follows is kept
+-- how many numbers say what is known of a found file
 abbrev pub keepLength : ℕ
 keepLength = 5
 
@@ -61,6 +63,7 @@ keepLength = 5
 abbrev pub flag : Bool → ℕ
 flag b = cond b 1 0
 
+-- the numbers of what is known of a found file: the length of its first kept line, where its last kept line starts, how many bytes are kept, how many are counted, and whether nothing that follows is kept
 abbrev pub keepNumbers : Keep → List ℕ
 keepNumbers k = k .first ∷ k .last ∷ k .kept ∷ k .seen ∷ flag (k .done) ∷ []
 

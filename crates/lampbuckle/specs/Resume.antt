@@ -11,20 +11,20 @@ use Rattle.unit.specs.declared.State.{State}
 use Rattle.remains.specs.Keep.{keepAll}
 use Rattle.resuming.specs.Pass.{passOver}
 use Rattle.listing.specs.Resuming.{edgesFrom, placeBy}
-use Rattle.resuming.specs.Last.{placedOf}
+use Rattle.resuming.specs.Last.{placedOf, numberOf}
 use Rattle.remains.specs.declared.keep.Keep.{Keep}
 use Rattle.resuming.specs.declared.pass.Passed.{Passed}
 use Rattle.resuming.specs.declared.place.Go.{Go}
 use Rattle.resuming.specs.declared.place.Go.the-variants.{Afresh, Second, On, Over, Refused}
 use Rattle.resuming.specs.declared.place.Placed.{Placed}
-use Rattle.lampbuckle.specs.Answer.{Outcome, counts, refuses}
+use Rattle.lampbuckle.specs.Answer.{Outcome, answers, refuses}
 use Rattle.lampbuckle.specs.Numbers.{stateLength, stateNumbers, keepLength, flag, keepNumbers, keepOf}
 
 -- ---- what is kept, read in pieces
 
 -- 1 where nothing that follows is kept, else 0; and what is known now
 abbrev pub keepAnswered : Keep → Outcome
-keepAnswered k = counts (flag (k .done)) (keepNumbers k ∷ [])
+keepAnswered k = answers (flag (k .done)) (keepNumbers k ∷ [])
 
 -- numbers of another shape are refused by 14
 unfoldable pub keepCall : List ℕ → List ℕ → Outcome
@@ -33,26 +33,28 @@ keepCall piece lent =
 
 -- ---- where to go on
 
--- the number of the place, and the state to go on from
+-- the number of a place, and the state to go on from
 abbrev pub goesOn : ℕ → State → Outcome
-goesOn number next = counts number (stateNumbers next ∷ [])
+goesOn number next = answers number (stateNumbers next ∷ [])
 
+-- 0 afresh, 1 behind the first line, 2 behind a record, 3 nothing is added; or the refusal
 abbrev pub byGo : Go → State → List ℕ → Outcome
 byGo Afresh next lent = goesOn 0 next
 byGo Second next lent = goesOn 1 next
 byGo On next lent = goesOn 2 next
 byGo Over next lent = goesOn 3 next
-byGo (Refused n) next lent = refuses n (lent ∷ [])
+byGo (Refused n) next lent = refuses (numberOf (Refused n)) (lent ∷ [])
 
+-- the answer of `place`, as numbers
 abbrev pub placeAnswered : Placed → List ℕ → Outcome
 placeAnswered p lent = byGo (p .go) (p .state) lent
 
 -- counts of another shape are refused by 4, a state by 14; then 15 and 16
 unfoldable pub placeCall : List ℕ → ℕ → List ℕ → List ℕ → List ℕ → List ℕ → Outcome
-placeCall listed count all first last lent =
-    cond (eqb (length all) subsequences)
+placeCall listed count counts first last lent =
+    cond (eqb (length counts) subsequences)
     (cond (eqb (length lent) stateLength)
-    (placeAnswered (placedOf (placeBy listed count all (edgesFrom first last))) lent)
+    (placeAnswered (placedOf (placeBy listed count counts (edgesFrom first last))) lent)
     (refuses missing (lent ∷ [])))
     (refuses countOut (lent ∷ []))
 
@@ -64,7 +66,7 @@ wantedLength = 1
 
 -- how many bytes are passed over, and how often 0A is wanted then
 abbrev pub passAnswered : Passed → Outcome
-passAnswered p = counts (p .at) ((p .left ∷ []) ∷ [])
+passAnswered p = answers (p .at) ((p .left ∷ []) ∷ [])
 
 -- numbers of another shape are refused by 14
 unfoldable pub passCall : List ℕ → List ℕ → Outcome

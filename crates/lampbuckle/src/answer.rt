@@ -5,7 +5,7 @@ ghost use lib.IntN.{pos};
 ghost use Rattle.lampbuckle.specs.Answer.{minus};
 
 // So many: of bytes, of symbols, of bases.
-pub fn counted(n: usize) -> i64
+pub(crate) fn counted(n: usize) -> i64
     requires { ⌜ n < 2 ^ 63 ⌝ }
     ensures { λ r. ⌜ r ≡ pos n ⌝ }
 {
@@ -13,7 +13,7 @@ pub fn counted(n: usize) -> i64
 }
 
 // Minus the number of a refusal.
-pub fn refused(n: u32) -> i64
+pub(crate) fn refused(n: u32) -> i64
     ensures { λ r. ⌜ r ≡ minus n ⌝ }
 {
     0 - (n as i64)

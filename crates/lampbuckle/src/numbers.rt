@@ -16,7 +16,7 @@ pub const STATE: usize = State::SUBSEQUENCES + 1;
 // What is known of a found file.
 pub const KEEP: usize = 5;
 
-pub fn read_unit(n: &[u32]) -> Unit
+pub(crate) fn read_unit(n: &[u32]) -> Unit
     requires { ⌜ length (now n) ≡ unitLength ⌝ }
     ensures { λ r. ⌜ r ≡ unitOf (now (n .entry)) ⌝ }
 {
@@ -32,7 +32,7 @@ pub fn read_unit(n: &[u32]) -> Unit
     }
 }
 
-pub fn lay_unit(n: &mut [u32], unit: Unit)
+pub(crate) fn lay_unit(n: &mut [u32], unit: Unit)
     requires { ⌜ length (now n) ≡ unitLength ⌝ }
     ensures { λ _. ⌜ now (n .exit) ≡ unitNumbers unit ⌝ }
 {
@@ -56,7 +56,7 @@ fn no_state() -> State
     }
 }
 
-pub fn read_state(n: &[u32]) -> State
+pub(crate) fn read_state(n: &[u32]) -> State
     ensures { λ r. ⌜ r ≡ stateOf (now (n .entry)) ⌝ }
 {
     if n.len() != STATE {
@@ -68,7 +68,7 @@ pub fn read_state(n: &[u32]) -> State
     }
 }
 
-pub fn lay_state(n: &mut [u32], state: State)
+pub(crate) fn lay_state(n: &mut [u32], state: State)
     requires { ⌜ length (now n) ≡ stateLength ⌝ }
     ensures { λ _. ⌜ now (n .exit) ≡ stateNumbers state ⌝ }
 {
@@ -84,7 +84,7 @@ pub fn lay_state(n: &mut [u32], state: State)
     n[8] = index[7];
 }
 
-pub fn read_counts(n: &[u32]) -> [u32; State::SUBSEQUENCES]
+pub(crate) fn read_counts(n: &[u32]) -> [u32; State::SUBSEQUENCES]
     requires { ⌜ length (now n) ≡ subsequences ⌝ }
     ensures { λ r. ⌜ r ≡ now (n .entry) ⌝ }
 {
@@ -92,13 +92,13 @@ pub fn read_counts(n: &[u32]) -> [u32; State::SUBSEQUENCES]
 }
 
 // 1 for true.
-pub fn flag(b: bool) -> usize
+pub(crate) fn flag(b: bool) -> usize
     ensures { λ r. ⌜ r ≡ flagOf b ⌝ }
 {
     if b { 1 } else { 0 }
 }
 
-pub fn read_keep(n: &[usize]) -> Keep
+pub(crate) fn read_keep(n: &[usize]) -> Keep
     requires { ⌜ length (now n) ≡ keepLength ⌝ }
     ensures { λ r. ⌜ r ≡ keepOf (now (n .entry)) ⌝ }
 {
@@ -111,7 +111,7 @@ pub fn read_keep(n: &[usize]) -> Keep
     }
 }
 
-pub fn lay_keep(n: &mut [usize], keep: Keep)
+pub(crate) fn lay_keep(n: &mut [usize], keep: Keep)
     requires { ⌜ length (now n) ≡ keepLength ⌝ }
     ensures { λ _. ⌜ now (n .exit) ≡ keepNumbers keep ⌝ }
 {

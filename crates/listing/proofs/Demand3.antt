@@ -1,7 +1,7 @@
 -- Demand 3, resuming, over demand 2's listing and any record call that keeps to `Lawful`. Each theorem is proved where it is cited from.
 -- Assumes nothing.
 use Prim.Native.Nat.{ℕ, suc, _+_, _-_, _<_}
-use mathlib.Core.Path.{_≡_, refl}
+use mathlib.Core.Path.{_≡_, refl, ap}
 use mathlib.Core.Logic.{_⊎_}
 use mathlib.Core.List.{List, []}
 use mathlib.Core.Option.{none, some}
@@ -10,14 +10,15 @@ use Rattle.refusal.specs.Numbers.{missing, otherFirst, otherLast}
 use Rattle.frame.specs.Hex.{unhex}
 use Rattle.frame.specs.Field.{bigAt}
 use Rattle.unit.specs.Kinds.{kindRefused, kindDone}
-use Rattle.listing.specs.Lines.{joined, kept}
+use Rattle.listing.specs.Lines.{joined, kept, linesWithin}
 use Rattle.unit.specs.Listed.{mostListed, numberPlace}
 use Rattle.listing.specs.Record.{Setup, Lawful}
-use Rattle.listing.specs.Listing.{Front, ready, line05, firstOf, listing, LawfulFront}
+use Rattle.listing.specs.Listing.{Front, ready, line05, firstOf, restOf, listed, listing, LawfulFront}
 use Rattle.listing.specs.Resuming.{bytes05, bytes06, stateAt, nothing, edges, edgesFrom, ListedLine, ClosingLine, Continues, placeBy, add, refuse, skip, onSkip, supply, edgesIn, supplied, printed, noRecord, resumed, torn, resumedAgain}
 use Rattle.listing.specs.Turn.{run}
+use Rattle.listing.proofs.ListingLaws.{listing-kept}
 use Rattle.listing.proofs.ResumeLaws.{resume-whole, resume-exact, resume-again}
-use Rattle.listing.proofs.PlaceLaws.{afresh-whole, first-refused, last-refused, refused-only, closed-05, closed-06, believed, goes-on, run-out, place-near}
+use Rattle.listing.proofs.PlaceLaws.{afresh-whole, behind-none, first-refused, last-refused, refused-only, closed-05, closed-06, believed, goes-on, run-out, place-near}
 
 -- ---- what is printed
 
@@ -25,14 +26,18 @@ use Rattle.listing.proofs.PlaceLaws.{afresh-whole, first-refused, last-
 pub resuming-makes-whole : (F : Front) → LawfulFront F → (n k : ℕ) → resumed F (torn n k (listing F)) ≡ listing F
 resuming-makes-whole = resume-whole
 
+-- the listing keeps its whole lines: what is kept are those that end within the first n bytes
+pub whole-lines-are-kept : (F : Front) → LawfulFront F → (n k : ℕ) → kept (torn n k (listing F)) ≡ joined (linesWithin n (listed F))
+whole-lines-are-kept = listing-kept
+
 -- what is supplied is exactly what is missing
 pub supplied-is-the-rest : (F : Front) → LawfulFront F → (n k : ℕ)
     → supplied F (torn n k (listing F)) ≡ add (drop (length (kept (torn n k (listing F)))) (listing F))
 supplied-is-the-rest = resume-exact
 
--- what is supplied is a function of the front of the files, the first and the last kept line: `supply` has nothing else to look at
-pub supplied-by-edges : (F : Front) (found : List ℕ) → supplied F found ≡ supply F (edgesIn found)
-supplied-by-edges F found = refl
+-- it goes by the front of the files, the first and the last kept line alone
+pub supplied-by-edges : (F : Front) (found other : List ℕ) → edgesIn found ≡ edgesIn other → supplied F found ≡ supplied F other
+supplied-by-edges F found other = ap (supply F)
 
 -- however often the listing is stopped and resumed
 pub resuming-again-makes-whole : (F : Front) → LawfulFront F → (stops : List (ℕ × ℕ)) → resumedAgain F stops ≡ listing F
@@ -62,6 +67,10 @@ pub refused-prints-one-line : (q : List ℕ) (n : ℕ) → printed q (refuse n) 
 refused-prints-one-line q n = refl
 
 -- ---- what is added behind each sort of last line
+
+-- after the first line alone, all the rest
+pub all-the-rest-after-the-first : (F : Front) → supply F (edges (firstOf F) (firstOf F)) ≡ add (joined (restOf F))
+all-the-rest-after-the-first = behind-none
 
 -- after 05 nothing
 pub nothing-after-05 : (F : Front) → LawfulFront F → (last : List ℕ) → ClosingLine kindRefused bytes05 last → supply F (edges (firstOf F) last) ≡ add []

@@ -6,6 +6,7 @@ use native.Mathlib.Numerals.{add-one}
 use native.Mathlib.Omega.{arith}
 use mathlib.Core.Path.{_≡_, refl, sym, ap, _∙_}
 use mathlib.Core.Bool.{true, false}
+use mathlib.Core.Logic.{inl, inr}
 use mathlib.Core.List.{List, [], _∷_, _++_, append-assoc, append-nil}
 use lib.Dec.{ltb, leb, eqb, lit<, lit≤}
 use lib.ListN.{length, getD, take, set, length-set, List·getD-eq-default}
@@ -14,6 +15,7 @@ use borrow.Author.Tests.{lt-ltb, le-ltb, ltb-true, ltb-false, eq-eqb, ne-eqb, eq
 use Rattle.frame.specs.Hex.{Bytes, unhex, be}
 use Rattle.frame.specs.Line.{lineWithin}
 use Rattle.frame.specs.Field.{bigAt}
+use Rattle.frame.specs.Steps.{afterLine}
 use Rattle.frame.specs.declared.line.Line.{Line}
 use Rattle.frame.specs.declared.line.Line.the-variants.{Frame, Malformed}
 use Rattle.frame.proofs.HexLaws.{by-test, false-true, byte-lt}
@@ -24,8 +26,8 @@ use Rattle.unit.proofs.StateLaws.{within-all, within-each}
 use Rattle.unit.specs.declared.State.{State}
 use Rattle.unit.specs.Kinds.{kindListed, kindRefused, kindDone}
 use Rattle.unit.specs.Listed.{mostListed, leastListed, numberPlace, indexPlace}
-use Rattle.listing.specs.Listing.{line05, line06}
-use Rattle.listing.specs.Resuming.{Last, goOn, whole, bad, bytes05, bytes06, wordsAt, stateAt, listedLast, frameLast, ifFrame, lastOf, ListedLine, ClosingLine}
+use Rattle.listing.specs.Listing.{frame05, line05, frame06, line06}
+use Rattle.listing.specs.Resuming.{Last, goOn, whole, bad, bytes05, bytes06, wordsAt, stateAt, listedLast, frameLast, lastOf, ListedLine, ClosingLine, Closes}
 
 -- ---- the numbers of a frame, one by one
 
@@ -83,15 +85,22 @@ pub last-bytes : (count : ℕ) (counts bs : List ℕ) → Bytes bs → 2 * lengt
 unfolding lastOf
 last-bytes count counts bs h l = rw (line-is-frame mostListed bs h l, unhex-line bs h)
 
+-- the bytes of the last lines
+pub bytes-05 : (q n : ℕ) → Bytes (frame05 q n)
+unfolding be Bytes
+bytes-05 q n = (lit< tt, (omega arith, (omega arith, (omega arith, tt))))
+
+pub bytes-06 : (q : ℕ) → Bytes (frame06 q)
+unfolding be Bytes
+bytes-06 q = (lit< tt, (omega arith, (omega arith, tt)))
+
 pub last-05 : (count : ℕ) (counts : List ℕ) (q n : ℕ) → lastOf count counts (line05 q n) ≡ whole
-unfolding line05 frameLast be Bytes
-last-05 count counts q n =
-    last-bytes count counts (be 1 kindRefused ++ be 2 q ++ be 1 n) (lit< tt, (omega arith, (omega arith, (omega arith, tt)))) (lit≤ tt)
+unfolding line05 frameLast be
+last-05 count counts q n = last-bytes count counts (frame05 q n) (bytes-05 q n) (lit≤ tt)
 
 pub last-06 : (count : ℕ) (counts : List ℕ) (q : ℕ) → lastOf count counts (line06 q) ≡ whole
-unfolding line06 frameLast be Bytes
-last-06 count counts q =
-    last-bytes count counts (be 1 kindDone ++ be 2 q) (lit< tt, (omega arith, (omega arith, tt))) (lit≤ tt)
+unfolding line06 frameLast be
+last-06 count counts q = last-bytes count counts (frame06 q) (bytes-06 q) (lit≤ tt)
 
 pub frame-listed : (count : ℕ) (counts bs : List ℕ) → getD bs 0 0 ≡ kindListed → leastListed ≤ length bs → bigAt 2 bs numberPlace < count
     → within (stateAt bs .index) counts ≡ true → frameLast count counts bs ≡ goOn (stateAt bs)
@@ -263,7 +272,7 @@ module _ (count : ℕ) (counts line : List ℕ) (all : length counts ≡ subsequ
   unfolding lastOf
   sorted = by (lineWithin mostListed line) refl
     where
-      by : (t : Line) → lineWithin mostListed line ≡ t → Sorted count counts line (ifFrame t (frameLast count counts (unhex line)))
+      by : (t : Line) → lineWithin mostListed line ≡ t → Sorted count counts line (afterLine bad t (frameLast count counts (unhex line)))
       by (Frame n) e = sorted-frame n e
       by Malformed e = other (λ w. malformed-frame (w .bytes) e (w .digits)) (λ w. malformed-frame bytes05 e (w .digits)) (λ w. malformed-frame bytes06 e (w .digits))
 
@@ -278,20 +287,13 @@ module _ (count : ℕ) (counts line : List ℕ) (all : length counts ≡ subsequ
       by (closed06 v) = absurd (omega (arith, w .kind, v .kind))
       by (other a b d) = absurd (a w)
 
-  pub said-05 : ClosingLine kindRefused bytes05 line → lastOf count counts line ≡ whole
-  said-05 w = by sorted
+  pub said-closes : Closes line → lastOf count counts line ≡ whole
+  said-closes w = by sorted w
     where
-      by : {t : Last} → Sorted count counts line t → t ≡ whole
-      by (listed v) = absurd (omega (arith, w .kind, v .kind))
-      by (closed05 v) = refl
-      by (closed06 v) = refl
-      by (other a b d) = absurd (b w)
-
-  pub said-06 : ClosingLine kindDone bytes06 line → lastOf count counts line ≡ whole
-  said-06 w = by sorted
-    where
-      by : {t : Last} → Sorted count counts line t → t ≡ whole
-      by (listed v) = absurd (omega (arith, w .kind, v .kind))
-      by (closed05 v) = refl
-      by (closed06 v) = refl
-      by (other a b d) = absurd (d w)
+      by : {t : Last} → Sorted count counts line t → Closes line → t ≡ whole
+      by (listed v) (inl c) = absurd (omega (arith, c .kind, v .kind))
+      by (listed v) (inr c) = absurd (omega (arith, c .kind, v .kind))
+      by (closed05 v) c = refl
+      by (closed06 v) c = refl
+      by (other a b d) (inl c) = absurd (b c)
+      by (other a b d) (inr c) = absurd (d c)

@@ -4,8 +4,10 @@ pub mod LinesLaws
 pub mod WordLaws
 pub mod LastLaws
 pub mod ListingLaws
+pub mod EndLaws
 pub mod TurnLaws
 pub mod ResumeLaws
 pub mod PlaceLaws
 pub mod FilesLaws
 pub mod Sample
+pub mod Unique

@@ -1,13 +1,15 @@
 -- The laws of a listing's lines: each is well formed, the 04 lines are numbered from 0, the last is an 05 or an 06 line, and 17 stands nowhere.
 -- Assumes nothing.
-use Prim.Native.Nat.{ℕ, zero, suc, _+_, _*_, _/_, _%_, _≤_, _<_}
+use Prim.Native.Nat.{ℕ, zero, suc, _+_, _-_, _*_, _/_, _%_, _≤_, _<_}
 use native.Mathlib.Nat.{zero-add, add-zero}
 use native.Mathlib.Omega.{arith}
 use mathlib.Core.Path.{_≡_, refl, sym, ap, _∙_}
 use mathlib.Core.Logic.{inl, inr}
 use mathlib.Core.List.{List, [], _∷_, _++_, append-assoc}
-use lib.Dec.{lit<, lit≤}
+use lib.Dec.{leb, lit<, lit≤}
 use lib.ListN.{length, getD}
+use lib.Seq.{take-nil, take-append-le, take-append-add}
+use borrow.Author.Tests.{leb-true, leb-false}
 use Rattle.refusal.specs.Numbers.{missing, noRoom}
 use Rattle.frame.specs.Hex.{Bytes, unhex, be}
 use Rattle.frame.specs.Line.{lineDigits}
@@ -18,31 +20,20 @@ use Rattle.frame.proofs.FieldLaws.{field-back}
 use Rattle.unit.specs.State.{subsequences, freshState}
 use Rattle.unit.specs.declared.State.{State}
 use Rattle.unit.specs.Kinds.{kindListed, kindRefused, kindDone}
-use Rattle.listing.specs.Lines.{linesOf, joined, same}
+use Rattle.listing.specs.Lines.{linesOf, joined, kept, linesWithin, same}
 use Rattle.unit.specs.Listed.{mostListed, headOf, words, Step, refused, accepted}
 use Rattle.listing.specs.Record.{Setup, Accepted, FirstLine, Lawful}
 use Rattle.listing.specs.Listing.{Front, alone, unpaired, ready, frame05, line05, frame06, line06, lastLine, onStep, records, firstOf, restOf, listed, listing, LawfulFront, onAccepted, stateBehind, Each, none, one, ListingLine, Numbered, Finished}
-use Rattle.listing.specs.Resuming.{lastFrom, bytes05, bytes06, ClosingLine, Closes}
-use Rattle.listing.proofs.LinesLaws.{same-true, whole-bytes, whole-frame, lines-line}
+use Rattle.listing.specs.Resuming.{lastFrom, bytes05, bytes06, ClosingLine, Closes, torn}
+use Rattle.listing.proofs.LinesLaws.{same-true, whole-bytes, whole-frame, kept-line, lines-line, kept-zeros, kept-part}
+use Rattle.listing.proofs.LastLaws.{bytes-05, bytes-06}
 use Rattle.listing.proofs.ResumeLaws.{accepted-kind}
 
 -- ---- the bytes of the last lines
 
-bytes-05 : (q n : ℕ) → Bytes (frame05 q n)
-unfolding be Bytes
-bytes-05 q n = (lit< tt, (omega arith, (omega arith, (omega arith, tt))))
-
-bytes-06 : (q : ℕ) → Bytes (frame06 q)
-unfolding be Bytes
-bytes-06 q = (lit< tt, (omega arith, (omega arith, tt)))
-
-pub unhex-05 : (q n : ℕ) → unhex (line05 q n) ≡ frame05 q n
+unhex-05 : (q n : ℕ) → unhex (line05 q n) ≡ frame05 q n
 unfolding line05
 unhex-05 q n = unhex-line (frame05 q n) (bytes-05 q n)
-
-pub unhex-06 : (q : ℕ) → unhex (line06 q) ≡ frame06 q
-unfolding line06
-unhex-06 q = unhex-line (frame06 q) (bytes-06 q)
 
 closing-05 : (q n : ℕ) → ClosingLine kindRefused bytes05 (line05 q n)
 unfolding line05 be
@@ -126,6 +117,27 @@ pub listing-split : (F : Front) → LawfulFront F → linesOf (listing F) ≡ li
 unfolding listing
 listing-split F w = split-back (listing-lines F w)
 
+-- ---- a stop at byte n keeps the lines that end within n bytes, and no other byte
+
+kept-lines : {ls : List (List ℕ)} → Each ListingLine ls → (n k : ℕ) → kept (torn n k (joined ls)) ≡ joined (linesWithin n ls)
+unfolding joined linesWithin
+kept-lines none n k = rw (take-nil n) (kept-zeros k)
+kept-lines (one {l} {ls} h g) n k =
+    by-test (leb (length l) n)
+    (λ t.
+    let e : n ≡ length l + (n - length l) = omega (arith, leb-true (length l) n t) in
+    rw t
+    (ap (λ (m : ℕ). kept (torn m k (l ++ joined ls))) e
+    ∙ rw (take-append-add l (joined ls) (n - length l), append-assoc)
+    (kept-line (h .whole) (torn (n - length l) k (joined ls)) ∙ ap (λ (r : List ℕ). l ++ r) (kept-lines g (n - length l) k))))
+    (λ t.
+    let lt : n < length l = leb-false (length l) n t in
+    rw (t, take-append-le n l (joined ls) (omega arith)) (kept-part (h .whole) n k lt))
+
+pub listing-kept : (F : Front) → LawfulFront F → (n k : ℕ) → kept (torn n k (listing F)) ≡ joined (linesWithin n (listed F))
+unfolding listing
+listing-kept F w n k = kept-lines (listing-lines F w) n k
+
 -- ---- 17 stands nowhere
 
 kind-05 : (q n : ℕ) → getD (unhex (line05 q n)) 0 0 ≡ kindRefused
@@ -206,7 +218,7 @@ listing-closes (unpaired first n) = inl (closing-05 0 n)
 listing-closes (ready E) = closes-from E (E .count) freshState (E .lines) (E .first)
 
 -- an 05 line is no 06 line
-not-06 : (q n r : ℕ) {P : Type 0} → line05 q n ≡ line06 r → P
+pub not-06 : (q n r : ℕ) {P : Type 0} → line05 q n ≡ line06 r → P
 not-06 q n r e = absurd (omega (arith, closing-05 q n .kind, closing-06 r .kind, ap (λ (x : List ℕ). getD (unhex x) 0 0) e))
 
 -- behind an 06 line no pair symbol is left over, and every record is listed

@@ -20,11 +20,11 @@ use Rattle.listing.specs.Lines.{joined, same}
 use Rattle.unit.specs.Listed.{mostListed, numberPlace, indexPlace}
 use Rattle.listing.specs.Record.{Setup, Lawful}
 use Rattle.listing.specs.Listing.{Front, alone, unpaired, ready, line05, firstOf, restOf, listing, LawfulFront}
-use Rattle.listing.specs.Resuming.{Last, goOn, whole, bad, bytes05, bytes06, stateAt, lastOf, nothing, edges, edgesFrom, onLast, placeBy, countOf, countsOf, place, ListedLine, ClosingLine, Continues, isFirst, isListed, isRefused, isDone, add, refuse, skip, onSkip, from, added, supply}
+use Rattle.listing.specs.Resuming.{Last, whole, bytes05, bytes06, stateAt, lastOf, nothing, edges, edgesFrom, onLast, placeBy, countOf, countsOf, place, ListedLine, ClosingLine, Continues, isFirst, isListed, isRefused, isDone, add, refuse, skip, onSkip, suppliedFrom, added, supply}
 use Rattle.listing.proofs.LinesLaws.{same-refl, same-true, same-false, same-not, same-near}
 use Rattle.listing.specs.Turn.{run}
 use Rattle.listing.proofs.TurnLaws.{run-records}
-use Rattle.listing.proofs.LastLaws.{length-wordsAt, Sorted, listed, closed05, closed06, other, sorted, said-listed, said-05, said-06, last-near}
+use Rattle.listing.proofs.LastLaws.{length-wordsAt, Sorted, listed, closed05, closed06, other, sorted, said-listed, said-closes, last-near}
 
 -- there is a symbol count for each subsequence
 counts-long : (F : Front) → LawfulFront F → length (countsOf F) ≡ subsequences
@@ -50,7 +50,7 @@ behind-first : (F : Front) (z : List ℕ) → (z ≡ firstOf F → ⊥) → supp
 unfolding supply place
 behind-first F z h = rw (same-refl (firstOf F), same-false z (firstOf F) h)
 
-behind-none : (F : Front) → supply F (edges (firstOf F) (firstOf F)) ≡ add (joined (restOf F))
+pub behind-none : (F : Front) → supply F (edges (firstOf F) (firstOf F)) ≡ add (joined (restOf F))
 unfolding supply place added
 behind-none F = rw (same-refl (firstOf F))
 
@@ -65,8 +65,8 @@ last-refused F w z h = behind-first F z (λ e. h (isFirst e)) ∙ by (sorted (co
     by (other a b d) = refl
 
 -- no 04 line can be continued where the front of the files is refused
-no-record : (F : Front) (s : State) (n : ℕ) (z : List ℕ) → ListedLine (countOf F) (countsOf F) z → from F s ≡ refuse n → ⊥
-unfolding countOf from
+no-record : (F : Front) (s : State) (n : ℕ) (z : List ℕ) → ListedLine (countOf F) (countsOf F) z → suppliedFrom F s ≡ refuse n → ⊥
+unfolding countOf suppliedFrom
 no-record (alone m) s n z v e = omega (arith, v .in-count)
 no-record (unpaired first m) s n z v e = omega (arith, v .in-count)
 no-record (ready E) s n z v e = let q : _≡_ {A = ℕ} 0 1 = cc in omega arith
@@ -125,16 +125,16 @@ closing F w z e k =
     (λ t. behind-first F z (same-not _ _ t) ∙ rw e)
 
 pub closed-05 : (F : Front) → LawfulFront F → (z : List ℕ) → ClosingLine kindRefused bytes05 z → supply F (edges (firstOf F) z) ≡ add []
-closed-05 F w z v = closing F w z (said-05 (countOf F) (countsOf F) z (counts-long F w) v) (λ q. omega (arith, v .kind))
+closed-05 F w z v = closing F w z (said-closes (countOf F) (countsOf F) z (counts-long F w) (inl v)) (λ q. omega (arith, v .kind))
 
 pub closed-06 : (F : Front) → LawfulFront F → (z : List ℕ) → ClosingLine kindDone bytes06 z → supply F (edges (firstOf F) z) ≡ add []
-closed-06 F w z v = closing F w z (said-06 (countOf F) (countsOf F) z (counts-long F w) v) (λ q. omega (arith, v .kind))
+closed-06 F w z v = closing F w z (said-closes (countOf F) (countsOf F) z (counts-long F w) (inr v)) (λ q. omega (arith, v .kind))
 
 -- ---- a well-formed 04 line is believed
 
 pub believed : (E : Setup) → Lawful E → (z : List ℕ) → ListedLine (E .count) (E .counts) z
     → supply (ready E) (edges (E .first) z) ≡ add (joined (onSkip E (stateAt (unhex z)) (skip (bigAt 2 (unhex z) numberPlace + 1) (E .lines))))
-unfolding firstOf countOf countsOf added from stateAt
+unfolding firstOf countOf countsOf added suppliedFrom stateAt
 believed E w z v =
     behind-first (ready E) z (λ q. omega (arith, v .kind, ap (λ (x : List ℕ). getD (unhex x) 0 0) q, w .unit .kind))
     ∙ rw (said-listed (E .count) (E .counts) z (w .counts-all) v)

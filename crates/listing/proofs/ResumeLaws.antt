@@ -9,7 +9,6 @@ use mathlib.Core.List.{List, [], _∷_, _++_, append-assoc}
 use mathlib.Core.Option.{none, some}
 use lib.ListN.{length, getD, drop}
 use lib.Seq.{take-nil, drop-append-seam}
-use lib.Dec.{lit<}
 use Rattle.refusal.specs.Numbers.{missing}
 use Rattle.frame.specs.Hex.{Bytes, unhex, be}
 use Rattle.frame.specs.Line.{lineDigits}
@@ -18,16 +17,16 @@ use Rattle.frame.proofs.HexLaws.{by-test}
 use Rattle.frame.proofs.LineLaws.{lineOfBytes, unhex-line, line-is-frame}
 use Rattle.unit.specs.State.{subsequences, freshState}
 use Rattle.unit.specs.declared.State.{State}
-use Rattle.unit.specs.Kinds.{kindUnit, kindListed, kindRefused, kindDone}
+use Rattle.unit.specs.Kinds.{kindUnit, kindListed}
 use Rattle.listing.specs.Lines.{linesOf, joined, ends, kept, WholeLine, same}
 use Rattle.unit.specs.Listed.{headOf, Step, refused, accepted, numberPlace}
 use Rattle.listing.specs.Record.{Setup, Accepted, FirstLine, Lawful}
-use Rattle.listing.specs.Listing.{Front, alone, unpaired, ready, line05, line06, lastLine, onStep, records, firstOf, restOf, listing, LawfulFront}
-use Rattle.listing.specs.Resuming.{goOn, stateAt, lastOf, lastFrom, edgesOf, second, onLast, countOf, countsOf, place, Answer, add, skip, from, added, supply, supplied, resumed, torn, resumedAgain}
+use Rattle.listing.specs.Listing.{Front, alone, unpaired, ready, frame05, line05, frame06, line06, lastLine, onStep, records, firstOf, restOf, listing, LawfulFront}
+use Rattle.listing.specs.Resuming.{goOn, stateAt, lastOf, lastFrom, edgesOf, second, onLast, countOf, countsOf, place, Answer, add, skip, suppliedFrom, added, supply, supplied, resumed, torn, resumedAgain}
 use Rattle.listing.proofs.LinesLaws.{same-refl, same-false, whole-bytes, whole-frame, whole-ends, lines-line, kept-zeros, Cut, inside, beyond, kept-cut}
 use Rattle.listing.proofs.WordLaws.{state-head}
 use Rattle.unit.proofs.StateLaws.{within-all}
-use Rattle.listing.proofs.LastLaws.{last-bytes, last-05, last-06, frame-listed}
+use Rattle.listing.proofs.LastLaws.{last-bytes, bytes-05, bytes-06, last-05, last-06, frame-listed}
 
 -- ---- the first line
 
@@ -55,12 +54,12 @@ unfolding line06
 whole-06 q = whole-bytes _
 
 other-05 : {first : List ℕ} → FirstLine first → (q n : ℕ) → same (line05 q n) first ≡ false
-unfolding line05 be Bytes
-other-05 w q n = other-first w (be 1 kindRefused ++ be 2 q ++ be 1 n) (lit< tt, (omega arith, (omega arith, (omega arith, tt)))) (λ e. omega arith)
+unfolding line05 be
+other-05 w q n = other-first w (frame05 q n) (bytes-05 q n) (λ e. omega arith)
 
 other-06 : {first : List ℕ} → FirstLine first → (q : ℕ) → same (line06 q) first ≡ false
-unfolding line06 be Bytes
-other-06 w q = other-first w (be 1 kindDone ++ be 2 q) (lit< tt, (omega arith, (omega arith, tt))) (λ e. omega arith)
+unfolding line06 be
+other-06 w q = other-first w (frame06 q) (bytes-06 q) (λ e. omega arith)
 
 -- ---- record lines passed over
 
@@ -129,7 +128,7 @@ module _ {E : Setup} (w : Lawful E) where
 
   -- the listing from a state on, where the record lines up to the state's number have been passed over
   good : (k : ℕ) (s : State) (ls : List (List ℕ)) → length (s .index) ≡ subsequences → s .number + k ≡ E .count → skip (s .number) (E .lines) ≡ some ls → Good (ready E) (records E k s ls)
-  unfolding records firstOf added countOf countsOf from
+  unfolding records firstOf added countOf countsOf suppliedFrom
   good zero s ls i e h = good-last s ls
   good (suc k) s [] i e h = good-05 (E .first) refl (w .unit) (s .number) missing
   good (suc k) s (l ∷ ls) i e h = by (E .step s l) refl (λ t. good k t ls)

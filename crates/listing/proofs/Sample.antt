@@ -24,7 +24,7 @@ use Rattle.listing.specs.Record.{Setup, Accepted, FirstLine, Lawful}
 use Rattle.listing.proofs.ResumeLaws.{first-line}
 use Rattle.listing.proofs.WordLaws.{bytes-append, bytes-head, length-head}
 use Rattle.listing.specs.Listing.{Front, ready, line05, lastLine, records, firstOf, restOf, listing}
-use Rattle.listing.specs.Resuming.{wordsAt, stateAt, listedLast, frameLast, lastOf, lastFrom, edgesOf, countOf, countsOf, place, Answer, add, refuse, skip, from, added, supply, supplied, torn}
+use Rattle.listing.specs.Resuming.{wordsAt, stateAt, listedLast, frameLast, lastOf, lastFrom, edgesOf, countOf, countsOf, place, Answer, add, refuse, skip, suppliedFrom, added, supply, supplied, torn}
 
 -- two records, no pair symbols; every well-formed line is accepted
 abbrev toyCount : ℕ
@@ -127,5 +127,5 @@ answers (f ∷ fs) = supplied sample f ∷ answers fs
 -- with a false line of the second record: it is believed, and its record line has no 0A, so the lines run out
 samples : answers (torn 30 3 (listing sample) ∷ torn 64 3 (listing sample) ∷ (lineOfBytes (kindUnit ∷ 4 ∷ []) ++ toyLine 0) ∷ (toyUnit ++ toyLine 2) ∷ (toyUnit ++ toyLine 1) ∷ [])
     ≡ add (joined (toyLine 0 ∷ line05 1 malformed ∷ [])) ∷ add (joined (line05 1 malformed ∷ [])) ∷ refuse otherFirst ∷ refuse otherLast ∷ add (joined (line05 2 missing ∷ [])) ∷ []
-unfolding listing joined firstOf restOf records lastLine linesOf pushByte line05 lineWithin allDigits isDigit kept keptWith headOf words be hexOf unhex glyph nib bigAt supply place added from skip edgesOf lastFrom countOf countsOf lastOf frameLast listedLast stateAt wordsAt within same ends
+unfolding listing joined firstOf restOf records lastLine linesOf pushByte line05 lineWithin allDigits isDigit kept keptWith headOf words be hexOf unhex glyph nib bigAt supply place added suppliedFrom skip edgesOf lastFrom countOf countsOf lastOf frameLast listedLast stateAt wordsAt within same ends
 samples = refl

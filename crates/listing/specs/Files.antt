@@ -20,7 +20,7 @@ module _ {Ref Head Pair : Type 0} (readRef : List (List ℕ) → Read Ref) (read
   onPair unit (good p) more = more p
   onPair unit (wrong n) more = unpaired unit n
 
-  -- so many pair lines, from subsequence i on, behind those that are read; a line that is wanted and missing is refused by 14
+  -- so many pair lines, in order, from subsequence i on, and `done` of what they say and of the lines behind them; a line that is wanted and missing is refused by 14
   unfoldable pub pairs : ℕ → ℕ → List ℕ → List (List ℕ) → (List Pair → List (List ℕ) → Setup) → Front
   pairs zero i unit ls done = ready (done [] ls)
   pairs (suc k) i unit [] done = unpaired unit missing

@@ -1,10 +1,11 @@
 -- A file as a list of bytes: its lines, and what of a damaged file is kept (document 01, Lines and Resuming).
 -- Assumes nothing.
-use Prim.Native.Nat.{ℕ}
+use Prim.Native.Nat.{ℕ, _-_}
 use mathlib.Core.Path.{_≡_}
 use mathlib.Core.Bool.{Bool, true, false, cond}
 use mathlib.Core.List.{List, [], _∷_, _++_}
-use lib.Dec.{eqb}
+use lib.Dec.{eqb, leb}
+use lib.ListN.{length}
 use Rattle.frame.specs.Line.{lineEnd}
 
 -- a byte in front of the first of some lines
@@ -37,6 +38,11 @@ keptWith x (y ∷ ys) = x ∷ y ∷ ys
 unfoldable pub kept : List ℕ → List ℕ
 kept [] = []
 kept (x ∷ xs) = cond (eqb x 0) [] (keptWith x (kept xs))
+
+-- of some lines, from the first on, those that end within n bytes
+unfoldable pub linesWithin : ℕ → List (List ℕ) → List (List ℕ)
+linesWithin n [] = []
+linesWithin n (l ∷ ls) = cond (leb (length l) n) (l ∷ linesWithin (n - length l) ls) []
 
 -- a whole line: its only 0A at its end, and no zero byte
 pub data WholeLine : List ℕ → Type 0 where

@@ -21,7 +21,7 @@ pub record Setup : Type 0 where
   -- the record count, and the symbol count of each subsequence
   pub count : ℕ
   pub counts : List ℕ
-  -- the record call at this unit, these pair symbols and this reference, lent the longest line: from a state and a record line
+  -- the record call at this unit, these pair symbols and this reference, whatever room is lent: from a state and a record line
   pub step : State → List ℕ → Step
   -- the lines of the unit file behind the pair lines
   pub lines : List (List ℕ)

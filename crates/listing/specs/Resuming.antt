@@ -12,8 +12,8 @@ use Rattle.refusal.specs.Numbers.{missing, otherFirst, otherLast}
 use Rattle.frame.specs.Hex.{unhex}
 use Rattle.frame.specs.Line.{lineWithin}
 use Rattle.frame.specs.Field.{bigAt}
-use Rattle.frame.specs.declared.line.Line.{Line}
-use Rattle.frame.specs.declared.line.Line.the-variants.{Frame, Malformed}
+use Rattle.frame.specs.Steps.{afterLine}
+use Rattle.frame.specs.declared.line.Line.the-variants.{Frame}
 use Rattle.unit.specs.State.{subsequences, within}
 use Rattle.unit.specs.declared.State.{State}
 use Rattle.unit.specs.Kinds.{kindListed, kindRefused, kindDone}
@@ -62,14 +62,9 @@ frameLast count counts bs =
     (cond (eqb (getD bs 0 0) kindRefused) (cond (eqb (length bs) bytes05) whole bad)
     (cond (eqb (getD bs 0 0) kindDone) (cond (eqb (length bs) bytes06) whole bad) bad))
 
--- what follows where a line is well formed
-abbrev pub ifFrame : Line → Last → Last
-ifFrame (Frame n) more = more
-ifFrame Malformed more = bad
-
 -- "hexadecimal as above, of at most 20,148 digits"
 unfoldable pub lastOf : ℕ → List ℕ → List ℕ → Last
-lastOf count counts line = ifFrame (lineWithin mostListed line) (frameLast count counts (unhex line))
+lastOf count counts line = afterLine bad (lineWithin mostListed line) (frameLast count counts (unhex line))
 
 -- ---- where to go on
 
@@ -175,17 +170,17 @@ abbrev pub onSkip : Setup → State → Option (List (List ℕ)) → List (List 
 onSkip E s none = line05 (s .number) missing ∷ []
 onSkip E s (some ls) = records E (E .count - s .number) s ls
 
--- what is supplied behind an 04 line, from the state behind its record
-unfoldable pub from : Front → State → Answer
-from (alone n) s = refuse otherLast
-from (unpaired first n) s = refuse otherLast
-from (ready E) s = add (joined (onSkip E s (skip (s .number) (E .lines))))
+-- what is supplied behind an 04 line, from the state behind its record; where no record is read, `place` never answers `on`, for no number is below a count of 0
+unfoldable pub suppliedFrom : Front → State → Answer
+suppliedFrom (alone n) s = refuse otherLast
+suppliedFrom (unpaired first n) s = refuse otherLast
+suppliedFrom (ready E) s = add (joined (onSkip E s (skip (s .number) (E .lines))))
 
 -- what is supplied at each place
 unfoldable pub added : Front → Place → Answer
 added F afresh = add (listing F)
 added F second = add (joined (restOf F))
-added F (on s) = from F s
+added F (on s) = suppliedFrom F s
 added F over = add []
 added F (no n) = refuse n
 

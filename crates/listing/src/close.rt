@@ -1,7 +1,7 @@
 // The last line of a listing, and the only one of a refused resume.
+use unit::kind::Kind;
 use writing::lay::Wrote;
 use writing::lay::write_line;
-use unit::kind::Kind;
 ghost use mathlib.Core.Path.{_≡_};
 ghost use Prim.Native.Nat.{_%_};
 ghost use Rattle.writing.specs.Whole.{wroteOf, lineInto};

@@ -6,9 +6,9 @@ use Prim.Native.Nat.{ℕ, _≤_}
 use lib.ListN.{length}
 use Rattle.listing.specs.Listing.{Front, firstOf}
 use Rattle.listing.specs.Resuming.{countOf, countsOf, place, placeBy, edgesIn}
-use Rattle.remains.specs.Keep.{mostBytes, fresh, keepAll, edgesAt}
+use Rattle.remains.specs.Keep.{mostBytes, fresh, keepAll, edgesAt, Known}
 use Rattle.remains.specs.declared.keep.Keep.{Keep}
-use Rattle.remains.proofs.KeepLaws.{Known, keep-append, keep-known}
+use Rattle.remains.proofs.KeepLaws.{keep-append, keep-known}
 
 -- a found file read to its end: how many bytes are kept, which they are, and where the first and the last kept line stand
 pub keep-knows-the-edges : (found : List ℕ) → length found ≤ mostBytes → Known found (keepAll fresh found)

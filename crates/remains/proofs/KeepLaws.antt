@@ -14,8 +14,9 @@ use borrow.Author.Tests.{le-leb, lt-leb, leb-true, leb-false, ne-eqb, eqb-true}
 use Rattle.frame.specs.Line.{lineEnd}
 use Rattle.frame.proofs.HexLaws.{by-test}
 use Rattle.listing.specs.Lines.{linesOf, keptWith, kept, WholeLine, end, more}
-use Rattle.listing.specs.Resuming.{lastFrom, edges, edgesFrom, edgesOf, edgesIn}
-use Rattle.remains.specs.Keep.{mostBytes, fresh, stopped, lineKept, passedBy, keepByte, keepAll, edgesAt, runLength, RunEnd, keepRun}
+use Rattle.listing.specs.Resuming.{lastFrom, edges, edgesFrom, edgesOf}
+use Rattle.remains.specs.Keep.{mostBytes, fresh, stopped, lineKept, passedBy, keepByte, keepAll, edgesAt, Known}
+use Rattle.remains.specs.Run.{runLength, RunEnd, keepRun}
 use Rattle.remains.specs.declared.keep.Keep.{Keep}
 use Rattle.listing.proofs.LinesLaws.{kept-line, lines-line, whole-long}
 
@@ -299,11 +300,6 @@ marks-edges k p a z f t m pos e =
     simp (one, two, three, ne-eqb (length a) 0 (λ q. omega arith))
 
 -- ---- what is known at the end of a file that can be counted
-
-pub record Known (f : List ℕ) (k : Keep) : Type 0 where
-  pub count : k .kept ≡ length (kept f)
-  pub front : take (k .kept) f ≡ kept f
-  pub edge : edgesAt k f ≡ edgesIn f
 
 known : {f : List ℕ} → Found f → length f ≤ mostBytes → Known f (keepAll fresh f)
 unfolding places lineEnded edgesFrom edgesOf linesOf

@@ -1,2 +1,3 @@
 pub mod KeepLaws
 pub mod Demand3
+pub mod Unique

@@ -1,13 +1,14 @@
 -- What is known of a found file after each of its bytes (document 01, Resuming): `Keep`, read in pieces of any size.
 -- Assumes nothing.
-use Prim.Native.Nat.{ℕ, suc, _+_, _-_, _≤_}
+use Prim.Native.Nat.{ℕ, _+_, _-_}
 use mathlib.Core.Path.{_≡_}
 use mathlib.Core.Bool.{true, false, cond}
 use mathlib.Core.List.{List, [], _∷_}
 use lib.Dec.{eqb, leb}
 use lib.ListN.{length, take, drop}
 use Rattle.frame.specs.Line.{lineEnd}
-use Rattle.listing.specs.Resuming.{Edges, edgesFrom}
+use Rattle.listing.specs.Lines.{kept}
+use Rattle.listing.specs.Resuming.{Edges, edgesFrom, edgesIn}
 use Rattle.remains.specs.declared.keep.Keep.{Keep}
 
 -- the most bytes that are counted; a longer file is read no further
@@ -54,19 +55,8 @@ keepAll k (b ∷ bs) = keepAll (keepByte k b) bs
 abbrev pub edgesAt : Keep → List ℕ → Edges
 edgesAt k f = edgesFrom (take (k .first) f) (take (k .kept - k .last) (drop (k .last) f))
 
--- how many bytes at the front of a piece are above 0A, as every digit is
-unfoldable pub runLength : List ℕ → ℕ
-runLength [] = 0
-runLength (b ∷ bs) = cond (leb b lineEnd) 0 (suc (runLength bs))
-
--- where the run that starts at place `start` of a piece ends
-pub record RunEnd (piece : List ℕ) (start end : ℕ) : Type 0 where
-  pub at : end ≡ start + runLength (drop start piece)
-  pub inside : end ≤ length piece
-
--- a run of n such bytes
-unfoldable pub keepRun : Keep → ℕ → Keep
-keepRun k n =
-    cond (k .done) k
-    (cond (leb n (mostBytes - k .seen)) (passedBy k n)
-    (stopped (passedBy k (mostBytes - k .seen))))
+-- what is known of a file at its end: how many bytes are kept, that they are its first ones, and its first and its last kept line
+pub record Known (f : List ℕ) (k : Keep) : Type 0 where
+  pub count : k .kept ≡ length (kept f)
+  pub front : take (k .kept) f ≡ kept f
+  pub edge : edgesAt k f ≡ edgesIn f

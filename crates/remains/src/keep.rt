@@ -4,7 +4,8 @@ ghost use mathlib.Core.Path.{_≡_};
 ghost use Prim.Native.Nat.{_+_, _<_, _≤_};
 ghost use lib.ListN.{length};
 ghost use Rattle.listing.specs.Lines.{kept as keptOf};
-ghost use Rattle.remains.specs.Keep.{mostBytes, fresh, stopped as stoppedAt, lineKept, passedBy, keepByte, keepAll, keepRun, RunEnd};
+ghost use Rattle.remains.specs.Keep.{mostBytes, fresh, stopped as stoppedAt, lineKept, passedBy, keepByte, keepAll};
+ghost use Rattle.remains.specs.Run.{keepRun, RunEnd};
 
 // What is known of the bytes that are read so far.
 pub struct Keep {

@@ -6,8 +6,8 @@ use mathlib.Core.List.{List, _++_}
 use lib.ListN.{drop}
 use Rattle.listing.specs.Lines.{linesOf}
 use Rattle.listing.specs.Resuming.{skip}
-use Rattle.resuming.specs.Pass.{passed, passOver}
-use Rattle.resuming.proofs.PassLaws.{linesIn, skip-passed, pass-piece}
+use Rattle.resuming.specs.Pass.{passed, linesIn, passOver}
+use Rattle.resuming.proofs.PassLaws.{skip-passed, pass-piece}
 
 -- to pass over lines is to count their 0A
 pub skip-counts-ends : (j : ℕ) (file : List ℕ) → skip j (linesOf file) ≡ linesIn (passed j file)

@@ -33,7 +33,7 @@ placedOf over = barePlaced Over
 placedOf (no n) = barePlaced (Refused n)
 
 -- the refusal number that an answer stands for; 0 where none is refused
-unfoldable pub numberOf : Go → ℕ
+abbrev pub numberOf : Go → ℕ
 numberOf Afresh = 0
 numberOf Second = 0
 numberOf On = 0

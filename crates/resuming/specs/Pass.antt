@@ -6,6 +6,7 @@ use mathlib.Core.List.{List, [], _∷_}
 use mathlib.Core.Option.{Option, none, some}
 use lib.Dec.{eqb}
 use Rattle.frame.specs.Line.{lineEnd}
+use Rattle.listing.specs.Lines.{linesOf}
 use Rattle.resuming.specs.declared.pass.Passed.{Passed}
 
 -- what stands behind the j-th 0A, or none where there are fewer
@@ -13,6 +14,11 @@ unfoldable pub passed : ℕ → List ℕ → Option (List ℕ)
 passed zero f = some f
 passed (suc j) [] = none
 passed (suc j) (x ∷ xs) = cond (eqb x lineEnd) (passed j xs) (passed (suc j) xs)
+
+-- its lines, where there are so many
+abbrev pub linesIn : Option (List ℕ) → Option (List (List ℕ))
+linesIn none = none
+linesIn (some f) = some (linesOf f)
 
 -- i bytes more are passed over
 abbrev pub shifted : ℕ → Passed → Passed

@@ -17,6 +17,7 @@ use Rattle.frame.specs.declared.line.Next.{Next}
 use Rattle.frame.specs.declared.line.Next.the-variants.{Whole, TooLong, NoEnd}
 use Rattle.frame.proofs.HexLaws.{by-test, false-true}
 use Rattle.resuming.specs.Pass.{passOver}
+use Rattle.resuming.proofs.PassLaws.{pass-within}
 use Rattle.stream.specs.Source.{unreadable, Held, Leads, Some, Filled, Refilled, Ready, bytesBy, lineBytes, HandedLine}
 use Rattle.resuming.specs.declared.pass.Passed.{Passed}
 use Rattle.stream.specs.declared.source.Source.{Source}
@@ -216,13 +217,6 @@ handed-line {before} {after} {s} {r} {t} n f q from to next end ended =
     fits = line-fits (r .at) (r .end) n after (f .held .order) (f .held .inside) q
 
 -- ---- lines passed over
-
-pub pass-within : (want : ℕ) (xs : List ℕ) → passOver want xs .at ≤ length xs
-unfolding passOver
-pass-within want [] = omega arith
-pass-within want (x ∷ xs) =
-    let i = pass-within (cond (eqb x lineEnd) (want - 1) want) xs in
-    by-test (eqb want 0) (λ e. rw e (omega arith)) (λ e. rw e (omega arith))
 
 pub pass-fits : (a e want : ℕ) (l : List ℕ) {p : Passed} → a ≤ e → e ≤ length l → p ≡ passOver want (take (e - a) (drop a l)) → a + p .at ≤ e
 pass-fits a e want l h g q =

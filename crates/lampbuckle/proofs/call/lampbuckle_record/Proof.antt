@@ -1,9 +1,11 @@
 -- `lampbuckle::call::lampbuckle_record` meets its contract, by the test of the shape and by what the record call answered. Assumes nothing.
 use native.Mathlib.Omega.{arith}
 use denote.Ref.{now}
+use Rattle.lampbuckle.specs.Call.{recordCall}
 use Rattle.lampbuckle.proofs.AnswerLaws.{told}
-use Rattle.lampbuckle.proofs.CallLaws.{record-misshapen, record-refused, record-listed, record-counted, record-nine}
+use Rattle.lampbuckle.proofs.CallLaws.{record-refused, record-listed, record-counted, record-nine}
 use borrow.Author.Needs.{needs}
+use borrow.Author.Tests.{ne-eqb}
 use Rattle.lampbuckle.proofs.call.lampbuckle_record.Statement.{statement}
 use Rattle.lampbuckle.proofs.call.lampbuckle_record.Tie as tie
 
@@ -11,7 +13,8 @@ refused-requires : tie.Need-refused-requires
 refused-requires c κs = search needs
 
 returns : tie.Need-returns
-returns c = record-misshapen _ _ _ _ _ _ _ (c .before .if1 .taken) (told (c .refused .ok) (c .refused .ensures))
+unfolding recordCall
+returns c = rw (ne-eqb _ _ (c .before .if1 .taken), told (c .refused .ok) (c .refused .ensures))
 
 read-unit-requires : tie.Need-read-unit-requires
 read-unit-requires c κs = search needs

@@ -1,8 +1,10 @@
 -- `lampbuckle::lines::lampbuckle_pair_line` meets its contract, by the test of the shape and by what the reader answered. Assumes nothing.
-use Rattle.lampbuckle.proofs.LineLaws.{pair-misshapen, pair-refused, pair-read, pair-place}
+use Rattle.lampbuckle.proofs.LineLaws.{pair-refused, pair-read, pair-place}
+use Rattle.lampbuckle.specs.Lines.{pairCall}
 use Rattle.lampbuckle.proofs.AnswerLaws.{told}
 use denote.Ref.{now}
 use borrow.Author.Needs.{needs}
+use borrow.Author.Tests.{ne-eqb}
 use Rattle.lampbuckle.proofs.lines.lampbuckle_pair_line.Statement.{statement}
 use Rattle.lampbuckle.proofs.lines.lampbuckle_pair_line.Tie as tie
 
@@ -10,7 +12,8 @@ refused-requires : tie.Need-refused-requires
 refused-requires c κs = search needs
 
 returns : tie.Need-returns
-returns c = pair-misshapen _ _ _ _ (c .before .if1 .taken) (told (c .refused .ok) (c .refused .ensures))
+unfolding pairCall
+returns c = rw (ne-eqb _ _ (c .before .if1 .taken), told (c .refused .ok) (c .refused .ensures))
 
 read-requires : tie.Need-read-requires
 read-requires c κs = search needs

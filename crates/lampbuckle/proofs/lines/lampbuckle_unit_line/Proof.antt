@@ -1,7 +1,9 @@
 -- `lampbuckle::lines::lampbuckle_unit_line` meets its contract, by the test of the shape and by what the reader answered. Assumes nothing.
-use Rattle.lampbuckle.proofs.LineLaws.{unit-misshapen, unit-refused, unit-read}
+use Rattle.lampbuckle.proofs.LineLaws.{unit-refused, unit-read}
+use Rattle.lampbuckle.specs.Lines.{unitCall}
 use Rattle.lampbuckle.proofs.AnswerLaws.{told}
 use borrow.Author.Needs.{needs}
+use borrow.Author.Tests.{ne-eqb}
 use Rattle.lampbuckle.proofs.lines.lampbuckle_unit_line.Statement.{statement}
 use Rattle.lampbuckle.proofs.lines.lampbuckle_unit_line.Tie as tie
 
@@ -9,7 +11,8 @@ refused-requires : tie.Need-refused-requires
 refused-requires c κs = search needs
 
 returns : tie.Need-returns
-returns c = unit-misshapen _ _ (c .before .if1 .taken) (told (c .refused .ok) (c .refused .ensures))
+unfolding unitCall
+returns c = rw (ne-eqb _ _ (c .before .if1 .taken), told (c .refused .ok) (c .refused .ensures))
 
 read-requires : tie.Need-read-requires
 read-requires c κs = search needs

@@ -1,7 +1,9 @@
 -- `lampbuckle::resume::lampbuckle_keep` meets its contract, by the test of the shape. Assumes nothing.
+use Rattle.lampbuckle.specs.Resume.{keepCall}
 use Rattle.lampbuckle.proofs.AnswerLaws.{told}
-use Rattle.lampbuckle.proofs.ResumeLaws.{flag-counted, keep-misshapen, keep-gone}
+use Rattle.lampbuckle.proofs.ResumeLaws.{flag-counted, keep-gone}
 use borrow.Author.Needs.{needs}
+use borrow.Author.Tests.{ne-eqb}
 use Rattle.lampbuckle.proofs.resume.lampbuckle_keep.Statement.{statement}
 use Rattle.lampbuckle.proofs.resume.lampbuckle_keep.Tie as tie
 
@@ -9,7 +11,8 @@ refused-requires : tie.Need-refused-requires
 refused-requires c κs = search needs
 
 returns : tie.Need-returns
-returns c = keep-misshapen _ _ (c .before .if1 .taken) (told (c .refused .ok) (c .refused .ensures))
+unfolding keepCall
+returns c = rw (ne-eqb _ _ (c .before .if1 .taken), told (c .refused .ok) (c .refused .ensures))
 
 read-keep-requires : tie.Need-read-keep-requires
 read-keep-requires c κs = search needs

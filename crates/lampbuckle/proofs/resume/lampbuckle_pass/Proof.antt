@@ -1,11 +1,13 @@
 -- `lampbuckle::resume::lampbuckle_pass` meets its contract, by the test of the shape. Assumes nothing.
 use native.Mathlib.Omega.{arith}
+use Rattle.lampbuckle.specs.Resume.{passCall}
 use Rattle.lampbuckle.proofs.AnswerLaws.{told}
-use Rattle.lampbuckle.proofs.ResumeLaws.{pass-misshapen, pass-counted, pass-gone}
+use Rattle.lampbuckle.proofs.ResumeLaws.{pass-counted, pass-gone}
 use denote.Ref.{now}
 use mathlib.Core.List.{[], _∷_}
 use Rattle.lampbuckle.proofs.NumberLaws.{sets-whole}
 use borrow.Author.Needs.{needs}
+use borrow.Author.Tests.{ne-eqb}
 use Rattle.lampbuckle.proofs.resume.lampbuckle_pass.Statement.{statement}
 use Rattle.lampbuckle.proofs.resume.lampbuckle_pass.Tie as tie
 
@@ -13,7 +15,8 @@ refused-requires : tie.Need-refused-requires
 refused-requires c κs = search needs
 
 returns : tie.Need-returns
-returns c = pass-misshapen _ _ (c .before .if1 .taken) (told (c .refused .ok) (c .refused .ensures))
+unfolding passCall
+returns c = rw (ne-eqb _ _ (c .before .if1 .taken), told (c .refused .ok) (c .refused .ensures))
 
 slice-read-pass : tie.Need-slice-read-pass
 slice-read-pass c = search needs

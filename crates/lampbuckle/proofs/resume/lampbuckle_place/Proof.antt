@@ -1,7 +1,9 @@
 -- `lampbuckle::resume::lampbuckle_place` meets its contract, by the tests of the shapes. Assumes nothing.
+use Rattle.lampbuckle.specs.Resume.{placeCall}
 use Rattle.lampbuckle.proofs.AnswerLaws.{told, told-outcome}
-use Rattle.lampbuckle.proofs.ResumeLaws.{place-counts, place-misshapen, place-found}
+use Rattle.lampbuckle.proofs.ResumeLaws.{place-found}
 use borrow.Author.Needs.{needs}
+use borrow.Author.Tests.{eq-eqb, ne-eqb}
 use Rattle.lampbuckle.proofs.resume.lampbuckle_place.Statement.{statement}
 use Rattle.lampbuckle.proofs.resume.lampbuckle_place.Tie as tie
 
@@ -9,13 +11,15 @@ refused-requires : tie.Need-refused-requires
 refused-requires c κs = search needs
 
 returns : tie.Need-returns
-returns c = place-counts _ _ _ _ _ _ (c .before .if1 .taken) (told (c .refused .ok) (c .refused .ensures))
+unfolding placeCall
+returns c = rw (ne-eqb _ _ (c .before .if1 .taken), told (c .refused .ok) (c .refused .ensures))
 
 refused-requires-2 : tie.Need-refused-requires-2
 refused-requires-2 c κs = search needs
 
 returns-2 : tie.Need-returns-2
-returns-2 c = place-misshapen _ _ _ _ _ _ (c .before .before .if1 .left) (c .before .if2 .taken) (told (c .refused2 .ok) (c .refused2 .ensures))
+unfolding placeCall
+returns-2 c = rw (eq-eqb _ _ (c .before .before .if1 .left), ne-eqb _ _ (c .before .if2 .taken), told (c .refused2 .ok) (c .refused2 .ensures))
 
 read-counts-requires : tie.Need-read-counts-requires
 read-counts-requires c κs = search needs

@@ -1,8 +1,11 @@
 -- `lampbuckle::write::lampbuckle_write_unit` meets its contract, by the tests of the unit. Assumes nothing.
 use native.Mathlib.Omega.{arith}
+use Rattle.lampbuckle.specs.Numbers.{unitNumbersRefusal}
+use Rattle.lampbuckle.specs.Write.{unitWritten}
 use Rattle.lampbuckle.proofs.AnswerLaws.{told}
-use Rattle.lampbuckle.proofs.WriteLaws.{line-counted, unit-misshapen, unit-refused, unit-written}
+use Rattle.lampbuckle.proofs.WriteLaws.{line-counted, unit-refused, unit-written}
 use borrow.Author.Needs.{needs}
+use borrow.Author.Tests.{ne-eqb}
 use Rattle.lampbuckle.proofs.write.lampbuckle_write_unit.Statement.{statement}
 use Rattle.lampbuckle.proofs.write.lampbuckle_write_unit.Tie as tie
 
@@ -10,7 +13,8 @@ refused-requires : tie.Need-refused-requires
 refused-requires c κs = search needs
 
 returns : tie.Need-returns
-returns c = unit-misshapen _ _ (c .before .if1 .taken) (told (c .refused .ok) (c .refused .ensures))
+unfolding unitWritten unitNumbersRefusal
+returns c = rw (ne-eqb _ _ (c .before .if1 .taken), told (c .refused .ok) (c .refused .ensures))
 
 read-unit-requires : tie.Need-read-unit-requires
 read-unit-requires c κs = search needs

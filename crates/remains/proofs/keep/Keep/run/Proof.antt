@@ -1,6 +1,7 @@
 -- `listing::keep::Keep::run` meets its contract: what can be counted is, and the rest is not. Assumes nothing.
 use mathlib.Core.Path.{_∙_, ap}
-use Rattle.remains.specs.Keep.{stopped, keepRun}
+use Rattle.remains.specs.Keep.{stopped}
+use Rattle.remains.specs.Run.{keepRun}
 use borrow.Author.Tests.{le-leb, lt-leb}
 use borrow.Author.Needs.{needs}
 use Rattle.remains.proofs.keep.Keep.run.Statement.{statement}
