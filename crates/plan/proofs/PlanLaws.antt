@@ -4,7 +4,7 @@ use mathlib.Core.Path.{_≡_, refl, sym, ap, _∙_}
 use mathlib.Core.List.{List}
 use Prim.Native.Nat.{ℕ, _+_, _<_}
 use native.Mathlib.Omega.{arith}
-use borrow.Author.Tests.{ltb-true}
+use borrow.Author.Tests.{ltb-true, eqb-false}
 use lib.Dec.{ltb, eqb}
 use lib.ListN.{length, getD}
 use Rattle.refusal.specs.Numbers.{malformed, misframed, positionOut}
@@ -19,16 +19,20 @@ use Rattle.unit.specs.Unit.{classHM, classU, mostSegments}
 use Rattle.unit.specs.declared.Unit.{Unit}
 use Rattle.unit.specs.declared.State.{State}
 use Rattle.frame.proofs.StepLaws.{past-line, past-field, past-refusal, past-match}
+use Rattle.unit.proofs.ValidLaws.{UnitValid}
+use Rattle.pairing.specs.Table60.{mappingPos}
 use Rattle.pairing.specs.Pairing.{pairOf}
 use Rattle.pairing.specs.declared.Answer.{Answer}
 use Rattle.pairing.specs.declared.Answer.the-variants as pair
 use Rattle.pairing.specs.declared.Link.{Link}
 use Rattle.segment.specs.Part.{partBytes, partLength}
+use Rattle.segment.specs.declared.part.Placed.{Placed}
 use Rattle.segment.specs.declared.part.Part.{Part}
-use Rattle.segment.specs.declared.part.Part.the-variants.{Absent}
+use Rattle.segment.specs.declared.part.Part.the-variants.{Aligned, Absent}
 use Rattle.segment.specs.declared.part.PartRead.{PartRead}
 use Rattle.segment.specs.declared.part.PartRead.the-variants as part
 use Rattle.segment.proofs.PartLaws.{Taken, placed-taken, plain-taken}
+use Rattle.segment.proofs.StandardLaws.{Accepted, placed-accepted, plain-other}
 use Rattle.plan.specs.Plan.{plan, finished, firstPart, secondPart, afterSecond, fromSecond, afterFirst, fromFirst, fromPos, refusedReading, settled, afterAnswer, fromKind, planOf, ReadyPlan}
 use Rattle.plan.specs.declared.read.Plan.{Plan}
 use Rattle.plan.specs.declared.read.Planned.{Planned}
@@ -177,3 +181,34 @@ module _ (u : Unit) (reference symbols counts : List ℕ) (state : State) (line 
 
   pub plan-ready : planOf u reference symbols counts state line ≡ record { planned = Whole p; state = moved } → ReadyPlan u reference (unhex line) p
   plan-ready q = plan-taken q .ready
+
+-- ---- its aligned segments are accepted ones
+
+module _ (u : Unit) (reference frame : List ℕ) (bytes : (i : ℕ) → getD frame i 0 < 256) (valid : UnitValid u) (q : Placed) where
+  -- in every class but U the first stands at pos
+  first-accepted : (pos at : ℕ) (next : Cursor) → firstPart u reference frame pos at ≡ part.Whole (Aligned q) next → Accepted u reference frame q × (q .position ≡ pos)
+  unfolding firstPart
+  first-accepted pos at next e =
+      by-test (eqb (u .class) classU)
+      (λ t. absurd (plain-other u reference frame pos q next at (simp t at e)))
+      (λ t. placed-accepted u reference frame pos q next at bytes (valid .class-least) (omega (arith, valid .class-most, eqb-false (u .class) classU t)) (simp t at e))
+
+  -- in the classes before HM the second stands at the mate's position
+  second-accepted : (link : Link) (pos at : ℕ) (next : Cursor) → secondPart u reference frame link pos at ≡ part.Whole (Aligned q) next
+      → Accepted u reference frame q × (q .position ≡ mappingPos pos (link .mate))
+  unfolding secondPart
+  second-accepted link pos at next e =
+      by-test (ltb (u .class) classHM)
+      (λ t. placed-accepted u reference frame (mappingPos pos (link .mate)) q next at bytes (valid .class-least) (omega (arith, ltb-true (u .class) classHM t)) (simp t at e))
+      (λ t. absurd (plain-other u reference frame pos q next at (simp t at e)))
+
+  module _ (at : ℕ) (p : Plan) (b : Blocks u reference frame at p) where
+    pub first-aligned : p .first ≡ Aligned q → Accepted u reference frame q × (q .position ≡ p .pos)
+    first-aligned e = first-accepted (p .pos) at (b .next) (b .first ∙ ap (λ (x : Part). part.Whole x (b .next)) e)
+
+    pub second-aligned : p .second ≡ Aligned q → Accepted u reference frame q × (q .position ≡ mappingPos (p .pos) (p .link .mate))
+    second-aligned e = by (b .second)
+      where
+        by : Second u reference frame p (b .next .at) → Accepted u reference frame q × (q .position ≡ mappingPos (p .pos) (p .link .mate))
+        by (alone few none) = absurd (let w : Absent ≡ Aligned q = sym none ∙ e in let z : _≡_ {A = ℕ} 0 1 = cc in omega arith)
+        by (behind next f) = second-accepted (p .link) (p .pos) (b .next .at) next (f ∙ ap (λ (x : Part). part.Whole x next) e)
