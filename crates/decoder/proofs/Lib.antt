@@ -3,6 +3,7 @@ pub mod TableLaws
 pub mod LawfulLaws
 pub mod OpenedLaws
 pub mod SymbolsLaws
+pub mod FitLaws
 pub mod ListingLaws
 pub mod TurnLaws
 pub mod Demands

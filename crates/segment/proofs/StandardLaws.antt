@@ -1,19 +1,20 @@
 -- What the standard says of an aligned segment that was accepted: its E-CIGAR is Table 92's, its bases come from the reference, its edits and its clips (10.6.1), and it lies within its unit.
 -- Assumes nothing.
-use Prim.Native.Nat.{ℕ, _+_, _<_, _≤_}
+use Prim.Native.Nat.{ℕ, _+_, _-_, _<_, _≤_}
 use mathlib.Core.Path.{_≡_, refl, sym, ap, _∙_}
-use mathlib.Core.Logic.{_⊎_}
+use mathlib.Core.Logic.{_⊎_, ⊎-elim}
 use mathlib.Core.List.{List}
 use native.Mathlib.Omega.{arith}
-use borrow.Author.Tests.{eqb-true, lt-ltb, le-ltb, ltb-true, ltb-false}
-use lib.Dec.{eqb, ltb}
+use borrow.Author.Tests.{eqb-true, lt-ltb, le-ltb, ltb-true, ltb-false, leb-false}
+use lib.Dec.{eqb, ltb, leb}
 use lib.ListN.{length, getD}
 use Rattle.refusal.specs.Numbers.{fine}
 use Rattle.frame.specs.declared.field.Cursor.{Cursor}
 use Rattle.frame.proofs.HexLaws.{by-test}
 use Rattle.unit.specs.Unit.{classP, classHM}
 use Rattle.unit.specs.declared.Unit.{Unit}
-use Rattle.alphabet.specs.Table35.{letterN, sizeOf, letterOf}
+use Rattle.alphabet.specs.Table35.{letterN, sizeOf, letterOf, codeOfN}
+use Rattle.alphabet.proofs.AlphabetLaws.{letter-of-n, code-of-n-inside}
 use Rattle.block.specs.declared.edit.Edit.{Edit}
 use Rattle.block.specs.Segment.{softBases}
 use Rattle.block.specs.Edits.{takenFrom}
@@ -21,14 +22,16 @@ use Rattle.ecigar.specs.Table90.{movesRead, movesReference, total, printed, All
 use Rattle.ecigar.specs.Ecigar.{ecigarText, Aligned as OfItsClass}
 use Rattle.ecigar.proofs.Table92Laws.{ecigar-is-table92}
 use Rattle.ecigar.proofs.OperationLaws.{counts-positive, operations-read, operations-reference}
-use Rattle.bases.specs.Reference.{isLent, lentSymbol, baseAt}
+use Rattle.bases.specs.Reference.{isLent, lentSymbol, baseAt, baseRefusal}
+use Rattle.bases.specs.Bases.{beginning}
 use Rattle.bases.specs.Alignment.{Acceptable}
-use Rattle.bases.proofs.ReadLaws.{read-length, base-under-match, base-of-edit, base-from, base-of-left, base-of-right, read-real}
+use Rattle.bases.proofs.AlignmentLaws.{under-fine, edit-inside}
+use Rattle.bases.proofs.ReadLaws.{read-length, base-under-match, base-of-edit, base-from, base-of-left, base-of-right}
 use Rattle.segment.specs.Aligned.{alignedAt}
 use Rattle.segment.specs.Unaligned.{unalignedAt}
 use Rattle.segment.specs.Place.{placeRefusal}
 use Rattle.segment.specs.Part.{underMatches, placedPart, placed, afterBlock, placedAt, afterPlain, plainAt}
-use Rattle.segment.specs.Listed.{listedBases, listedEcigar, listedOperations, editsIn, mappedIn, leftSoftClips, rightSoftClips, table92, Matches, Brought}
+use Rattle.segment.specs.Listed.{listedBases, listedEcigar, listedOperations, editsIn, mappedIn, leftSoftClips, rightSoftClips, table92, Matches, Brought, Letter}
 use Rattle.segment.specs.declared.aligned.Aligned.{Aligned as AlignedOf}
 use Rattle.segment.specs.declared.aligned.AlignedBlock.{AlignedBlock}
 use Rattle.segment.specs.declared.aligned.AlignedBlock.the-variants as aligned
@@ -109,6 +112,16 @@ missing-base alphabet reference first at h =
     by-test (ltb at first) (λ t. simp t)
     (λ t. by-test (ltb at (first + length reference)) (λ s. absurd (h (ltb-false _ _ t) (ltb-true _ _ s))) (λ s. simp (t, s)))
 
+-- a base that is not refused is a letter of the alphabet
+base-letter : (alphabet : ℕ) (reference : List ℕ) (first at : ℕ) → baseRefusal alphabet reference first at ≡ fine → Letter alphabet (baseAt alphabet reference first at)
+unfolding baseRefusal baseAt
+base-letter alphabet reference first at z =
+    by-test (isLent reference first at)
+    (λ t. by-test (leb (sizeOf alphabet) (lentSymbol reference first at))
+    (λ s. let y = simp (t, s) at z in absurd (omega arith))
+    (λ s. (lentSymbol reference first at, (leb-false (sizeOf alphabet) (lentSymbol reference first at) s, simp t))))
+    (λ t. (codeOfN alphabet, (code-of-n-inside alphabet, simp t (sym (letter-of-n alphabet)))))
+
 -- ---- what is listed of it
 
 module _ (u : Unit) (reference frame : List ℕ) (q : Placed) (a : Accepted u reference frame q) where
@@ -155,5 +168,25 @@ module _ (u : Unit) (reference frame : List ℕ) (q : Placed) (a : Accepted u re
       → getD (listedBases u reference frame q) (q .segment .clips .«left_soft» + mappedIn q + i) 0 ≡ letterOf (u .alphabet) (getD frame (q .segment .«soft_at» + q .segment .clips .«left_soft» + i) 0)
   listed-right = base-of-right (u .class) (u .alphabet) frame reference (u .first) (q .position) (q .segment) (a .block)
 
-  pub listed-real : (i : ℕ) → i < q .segment .length → 0 < getD (listedBases u reference frame q) i 0
-  listed-real = read-real (u .class) (u .alphabet) frame reference (u .first) (q .position) (q .segment) (a .block) (a .matched) (a .symbols)
+  pub listed-letter : (i : ℕ) → i < q .segment .length → Letter (u .alphabet) (getD (listedBases u reference frame q) i 0)
+  listed-letter i h =
+      let left = q .segment .clips .«left_soft» in
+      by-test (ltb i left)
+      (λ s. let l = ltb-true i left s in rw (listed-left i l) (_, (a .symbols i (omega arith), refl)))
+      (λ s.
+      let l = ltb-false i left s in
+      by-test (ltb i (left + mappedIn q))
+      (λ t.
+      let m = ltb-true i (left + mappedIn q) t in
+      let k : left + (i - left) ≡ i = omega arith in
+      ⊎-elim
+      (λ w. rw (← k) (rw (listed-match (i - left) (w .0) (w .1)) (base-letter (u .alphabet) reference (u .first) (w .0) (under-fine (u .alphabet) reference (u .first) (mappedIn q) (beginning (q .position)) (editsIn u frame q) (i - left) (w .0) (a .matched) (w .1)))))
+      (λ w. rw (← k) (rw (listed-edit (i - left) (w .0) (w .1)) (_, (edit-inside (mappedIn q) (sizeOf (u .alphabet)) 0 (editsIn u frame q) (i - left) (w .0) (a .block .edits) (w .1), refl))))
+      (listed-from (i - left) (omega arith)))
+      (λ t.
+      let m = ltb-false i (left + mappedIn q) t in
+      let j = i - (left + mappedIn q) in
+      let k : left + mappedIn q + j ≡ i = omega arith in
+      let less : j < q .segment .clips .«right_soft» = omega (arith, a .block .clips) in
+      let at : q .segment .«soft_at» + left + j ≡ q .segment .«soft_at» + (left + j) = omega arith in
+      rw (← k) (rw (listed-right j less, at) (_, (a .symbols (left + j) (omega arith), refl)))))

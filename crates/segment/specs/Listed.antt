@@ -1,8 +1,10 @@
 -- The words in which an aligned segment that is listed is compared with the standard: its bases and E-CIGAR as they are listed, and what the tables take of it.
 -- Assumes nothing.
-use Prim.Native.Nat.{ℕ, _+_}
+use Prim.Native.Nat.{ℕ, _+_, _<_}
+use mathlib.Core.Path.{_≡_}
 use mathlib.Core.List.{List}
 use Rattle.unit.specs.declared.Unit.{Unit}
+use Rattle.alphabet.specs.Table35.{sizeOf, letterOf}
 use Rattle.block.specs.declared.edit.Edit.{Edit}
 use Rattle.block.specs.Segment.{mappedLength}
 use Rattle.ecigar.specs.Table90.{Operation}
@@ -57,3 +59,7 @@ Matches u frame q i at = UnderMatch (mappedIn q) (beginning (q .position)) (edit
 -- mapped base i is brought by an edit, a substitution or an insertion
 abbrev pub Brought : Unit → List ℕ → Placed → ℕ → Edit → Type 0
 Brought u frame q i e = OfEdit (editsIn u frame q) i e
+
+-- a letter of the alphabet (Table 35)
+abbrev pub Letter : ℕ → ℕ → Type 0
+Letter alphabet letter = (symbol : ℕ) × ((symbol < sizeOf alphabet) × (letter ≡ letterOf alphabet symbol))
