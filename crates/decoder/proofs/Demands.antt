@@ -10,7 +10,7 @@ use Rattle.refusal.specs.Numbers.{missing, otherFirst, otherLast, noRoom}
 use Rattle.frame.specs.Hex.{unhex, be}
 use Rattle.frame.specs.Field.{bigAt}
 use Rattle.frame.proofs.Unique.{once}
-use Rattle.unit.specs.Unit.{mostReference}
+use Rattle.unit.specs.Unit.{mostReference, classHM, classU, mostSegments}
 use Rattle.unit.specs.State.{subsequences, freshState}
 use Rattle.unit.specs.Kinds.{kindRefused, kindDone}
 use Rattle.unit.specs.Listed.{mostListed, numberPlace, refused, accepted}
@@ -20,18 +20,22 @@ use Rattle.alphabet.specs.Table35.{letterN, letterOf}
 use Rattle.pairing.specs.Table60.{mateSeqId, mappingPos}
 use Rattle.block.specs.declared.edit.Edit.{Edit}
 use Rattle.ecigar.specs.Table90.{printed as written, movesRead, movesReference, total, AllPositive}
-use Rattle.segment.specs.Part.{partBytes, alignedBytes}
+use Rattle.bases.specs.Bases.{lettersAt}
+use Rattle.bases.proofs.ReadLaws.{getD-letters}
+use Rattle.segment.specs.Part.{partBytes, alignedBytes, unalignedBytes}
 use Rattle.segment.specs.Listed.{listedBases, listedEcigar, listedOperations, mappedIn, table92, Matches, Brought, Letter}
 use Rattle.segment.specs.declared.part.Placed.{Placed}
-use Rattle.segment.specs.declared.part.Part.the-variants.{Aligned}
+use Rattle.segment.specs.declared.unaligned.Unaligned.{Unaligned as UnalignedOf}
+use Rattle.segment.specs.declared.part.Part.the-variants.{Aligned, Unaligned, Absent}
 use Rattle.segment.proofs.StandardLaws.{Accepted, listed-is-table92, listed-operations, listed-counts, listed-reads, listed-end, listed-length, listed-from, listed-lent, listed-missing, listed-edit, listed-left, listed-right, listed-letter}
 use Rattle.plan.specs.Plan.{planOf}
-use Rattle.plan.specs.Said.{AlignedIn}
+use Rattle.plan.specs.Said.{Blocks, AlignedIn}
 use Rattle.plan.specs.declared.read.Plan.{Plan}
 use Rattle.plan.specs.declared.read.Planned.the-variants.{Whole}
+use Rattle.plan.proofs.PlanLaws.{first-is-aligned, first-is-plain, second-is-aligned, second-is-plain, second-is-absent}
 use Rattle.record.specs.Record.{listedBytes, stepOf, recordOf, recorded, output}
 use Rattle.record.specs.declared.Answer.the-variants.{Refused}
-use Rattle.record.proofs.RecordLaws.{StepTaken, step-taken, said-listed, said-first, said-second, said-aligned}
+use Rattle.record.proofs.RecordLaws.{StepTaken, step-taken, said-listed, said-taken, said-first, said-second, said-aligned}
 use Rattle.listing.specs.Lines.{linesOf, joined, kept}
 use Rattle.listing.specs.Files.{good, wrong}
 use Rattle.listing.specs.Listing.{line05, line06, Each, ListingLine, Numbered}
@@ -80,6 +84,11 @@ pub accepted-call-lists-its-line : (u : Unit) (reference symbols counts : List �
     → StepTaken u reference symbols counts state line frame next
 accepted-call-lists-its-line = step-taken
 
+-- its line says one record
+pub accepted-call-says-a-record : (u : Unit) (reference symbols counts : List ℕ) (state : State) (line frame : List ℕ) (next : State) → stepOf u reference symbols counts state line ≡ accepted frame next
+    → (p : Plan) × (planOf u reference symbols counts state line .planned ≡ Whole p)
+accepted-call-says-a-record u reference symbols counts state line frame next call = let t = step-taken u reference symbols counts state line frame next call in (t .plan, t .said)
+
 -- ---- what the standard says of it: any call that is accepted, and the record p that its line says
 
 module _ (u : Unit) (reference symbols counts : List ℕ) (state : State) (line frame : List ℕ) (next : State) (call : stepOf u reference symbols counts state line ≡ accepted frame next)
@@ -87,6 +96,38 @@ module _ (u : Unit) (reference symbols counts : List ℕ) (state : State) (line 
   -- the line that is listed is this record: its number and the indexes behind it, its link, its first and its second segment
   pub record-is-listed : frame ≡ listedBytes u reference (unhex line) (state .number) next p
   record-is-listed = said-listed u reference symbols counts state line frame next call p said
+
+  blocks : Blocks u reference (unhex line) 5 p
+  blocks = said-taken u reference symbols counts state line frame next call p said .blocks
+
+  -- in every class but U the first read is aligned
+  pub first-read-is-aligned : (u .class ≡ classU → ⊥) → (q : Placed) × (p .first ≡ Aligned q)
+  first-read-is-aligned = first-is-aligned u reference (unhex line) 5 p blocks
+
+  -- in P, N, M and I so is the second, where the record has two
+  pub second-read-is-aligned : mostSegments ≤ p .link .segments → u .class < classHM → (q : Placed) × (p .second ≡ Aligned q)
+  second-read-is-aligned = second-is-aligned u reference (unhex line) 5 p blocks
+
+  -- no read of class U is
+  pub first-read-of-u-is-unaligned : u .class ≡ classU → (s : UnalignedOf) × (p .first ≡ Unaligned s)
+  first-read-of-u-is-unaligned = first-is-plain u reference (unhex line) 5 p blocks
+
+  -- nor is the second of HM, the half-mapped pair
+  pub second-read-of-hm-is-unaligned : mostSegments ≤ p .link .segments → classHM ≤ u .class → (s : UnalignedOf) × (p .second ≡ Unaligned s)
+  second-read-of-hm-is-unaligned = second-is-plain u reference (unhex line) 5 p blocks
+
+  -- a record of one read lists no second
+  pub one-read-stands-alone : p .link .segments < mostSegments → p .second ≡ Absent
+  one-read-stands-alone = second-is-absent u reference (unhex line) 5 p blocks
+
+  -- an unaligned read is listed at position 0, with strand 0 and no E-CIGAR: its length and its bases
+  pub unaligned-read-is-listed : (s : UnalignedOf) → partBytes u reference (unhex line) (Unaligned s) ≡ be 4 0 ++ be 1 0 ++ be 2 (s .length) ++ lettersAt (u .alphabet) (unhex line) (s .at) (s .length) ++ be 2 0
+  unfolding partBytes unalignedBytes
+  unaligned-read-is-listed s = refl
+
+  -- its bases are the block's
+  pub unaligned-base-is-the-block : (s : UnalignedOf) (i : ℕ) → i < s .length → getD (lettersAt (u .alphabet) (unhex line) (s .at) (s .length)) i 0 ≡ letterOf (u .alphabet) (getD (unhex line) (s .at + i) 0)
+  unaligned-base-is-the-block s i = getD-letters (u .alphabet) (unhex line) (s .at) (s .length) i
 
   -- the first aligned read maps to the position that the record gives
   pub first-read-maps-to-pos : (q : Placed) → p .first ≡ Aligned q → q .position ≡ bigAt 4 (unhex line) 1

@@ -23,10 +23,9 @@ use Rattle.pairing.proofs.Cases.{sequence-within}
 use Rattle.pairing.proofs.Laws.{link-within}
 use Rattle.segment.specs.declared.part.Placed.{Placed}
 use Rattle.plan.specs.Plan.{planOf}
-use Rattle.plan.specs.Said.{AlignedIn}
+use Rattle.plan.specs.Said.{PlanTaken, AlignedIn}
 use Rattle.plan.specs.declared.read.Plan.{Plan}
 use Rattle.plan.specs.declared.read.Planned.the-variants.{Whole}
-use Rattle.plan.proofs.PlanLaws.{PlanTaken}
 use Rattle.plan.proofs.MateLaws.{mate-fits}
 use Rattle.record.proofs.RecordLaws.{said-taken, said-aligned}
 use Rattle.listing.specs.Files.{good}

@@ -29,11 +29,11 @@ use Rattle.segment.specs.declared.part.Part.the-variants.{Aligned}
 use Rattle.segment.proofs.StandardLaws.{Accepted}
 use Rattle.plan.specs.Lent.{lentRefusal}
 use Rattle.plan.specs.Plan.{planOf}
-use Rattle.plan.specs.Said.{AlignedIn}
+use Rattle.plan.specs.Said.{PlanTaken, AlignedIn}
 use Rattle.plan.specs.declared.read.Plan.{Plan}
 use Rattle.plan.specs.declared.read.Planned.{Planned}
 use Rattle.plan.specs.declared.read.Planned.the-variants.{Whole, Refused}
-use Rattle.plan.proofs.PlanLaws.{PlanTaken, plan-taken, first-aligned, second-aligned}
+use Rattle.plan.proofs.PlanLaws.{plan-taken, first-aligned, second-aligned}
 use Rattle.plan.proofs.RefusalLaws.{EarlyPlan, lent-early, plan-early}
 use Rattle.plan.proofs.StateLaws.{LentTaken, lent-taken}
 use Rattle.record.specs.Record.{linkBytes, listedBytes, after, planned, stepOf, withRoom, recordOf}

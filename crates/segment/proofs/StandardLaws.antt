@@ -35,11 +35,12 @@ use Rattle.segment.specs.Listed.{listedBases, listedEcigar, listedOperat
 use Rattle.segment.specs.declared.aligned.Aligned.{Aligned as AlignedOf}
 use Rattle.segment.specs.declared.aligned.AlignedBlock.{AlignedBlock}
 use Rattle.segment.specs.declared.aligned.AlignedBlock.the-variants as aligned
+use Rattle.segment.specs.declared.unaligned.Unaligned.{Unaligned as UnalignedOf}
 use Rattle.segment.specs.declared.unaligned.UnalignedBlock.{UnalignedBlock}
 use Rattle.segment.specs.declared.unaligned.UnalignedBlock.the-variants as unaligned
 use Rattle.segment.specs.declared.part.Placed.{Placed}
 use Rattle.segment.specs.declared.part.Part.{Part}
-use Rattle.segment.specs.declared.part.Part.the-variants.{Aligned}
+use Rattle.segment.specs.declared.part.Part.the-variants.{Aligned, Unaligned}
 use Rattle.segment.specs.declared.part.PartRead.{PartRead}
 use Rattle.segment.specs.declared.part.PartRead.the-variants.{Whole, Refused}
 use Rattle.segment.proofs.PlaceLaws.{Inside, place-inside}
@@ -89,14 +90,29 @@ module _ (u : Unit) (reference frame : List ℕ) (position : ℕ) (q : Placed) (
       by (aligned.Refused n) f z = absurd (let y : _≡_ {A = ℕ} 0 1 = cc in omega arith)
       by (aligned.Whole a) f z = aligned-accepted first last a (block-ready (u .class) (u .alphabet) frame bytes a at f) z
 
-  -- an unaligned part is none
-  pub plain-other : (at : ℕ) → plainAt u frame at ≡ Whole (Aligned q) next → ⊥
-  unfolding plainAt
-  plain-other at e = by (unalignedAt (u .alphabet) frame at) e
+-- ---- what is read at an aligned place is aligned, and what is read at another is not
+
+module _ (u : Unit) (frame : List ℕ) (p : Part) (next : Cursor) where
+  pub placed-aligned : (reference : List ℕ) (position at : ℕ) → placedAt u reference frame position at ≡ Whole p next → (q : Placed) × (p ≡ Aligned q)
+  unfolding placedAt placed
+  placed-aligned reference position at e = by (alignedAt (u .class) (u .alphabet) frame at) e
     where
-      by : (x : UnalignedBlock) → afterPlain x ≡ Whole (Aligned q) next → ⊥
-      by (unaligned.Refused n) z = let y : _≡_ {A = ℕ} 0 1 = cc in omega arith
-      by (unaligned.Whole s) z = let y : _≡_ {A = ℕ} 0 1 = cc in omega arith
+      by : (x : AlignedBlock) → afterBlock u reference frame position x ≡ Whole p next → (q : Placed) × (p ≡ Aligned q)
+      by (aligned.Refused n) z = absurd (let y : _≡_ {A = ℕ} 0 1 = cc in omega arith)
+      by (aligned.Whole a) z =
+          by-test (eqb (placeRefusal (u .start) (u .end) position (a .taken)) fine)
+          (λ s. by-test (eqb (underMatches u reference frame position (a .segment)) fine)
+          (λ t. let w : _≡_ {A = PartRead} (Whole (placedPart position a) (a .next)) (Whole p next) = simp (s, t) at z in (record { segment = a .segment; position = position; text = a .text }, cc))
+          (λ t. absurd (let w = simp (s, t) at z in let y : _≡_ {A = ℕ} 0 1 = cc in omega arith)))
+          (λ s. absurd (let w = simp s at z in let y : _≡_ {A = ℕ} 0 1 = cc in omega arith))
+
+  pub plain-unaligned : (at : ℕ) → plainAt u frame at ≡ Whole p next → (s : UnalignedOf) × (p ≡ Unaligned s)
+  unfolding plainAt
+  plain-unaligned at e = by (unalignedAt (u .alphabet) frame at) e
+    where
+      by : (x : UnalignedBlock) → afterPlain x ≡ Whole p next → (s : UnalignedOf) × (p ≡ Unaligned s)
+      by (unaligned.Refused n) z = absurd (let y : _≡_ {A = ℕ} 0 1 = cc in omega arith)
+      by (unaligned.Whole s) z = (s, cc)
 
 -- ---- the reference at a position
 
