@@ -28,7 +28,7 @@ unfoldable pub OfEdit : List Edit → ℕ → Edit → Type 0
 OfEdit [] i d = ⊥
 OfEdit (e ∷ es) i d = ((e ≡ d) × ((e .kind ≡ deletion → ⊥) × (e .offset ≡ i))) ⊎ OfEdit es i d
 
--- a segment whose block was accepted: refusals 9, 10, 11 and 12 do not hold
+-- a segment whose block was accepted: its soft clips do not reach the read length (9), and each edit is accepted where it stands (11, 10, 12)
 pub record Acceptable (class alphabet : ℕ) (frame : List ℕ) (s : Segment) : Type 0 where
-  pub clips : softBases (s .clips) ≤ s .length
+  pub clips : softBases (s .clips) < s .length
   pub edits : Sound (mappedLength (s .length) (s .clips)) (sizeOf alphabet) 0 (editsAt class alphabet frame (s .edits) (s .«edits_at»))

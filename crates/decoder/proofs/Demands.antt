@@ -1,16 +1,16 @@
 -- WHAT IS PROMISED, demand by demand: of every reference.hex and unit.hex, whatever their bytes, and of every found file. Each theorem is proved where it is cited from.
 -- Assumes nothing.
-use Prim.Native.Nat.{ℕ, suc, _+_, _-_, _<_, _≤_}
+use Prim.Native.Nat.{ℕ, suc, _+_, _-_, _<_, _≤_, _^_}
 use mathlib.Core.Path.{_≡_, refl, sym}
 use mathlib.Core.Logic.{_⊎_}
 use mathlib.Core.List.{List, [], _∷_, _++_}
 use mathlib.Core.Option.{none, some}
 use lib.ListN.{length, getD, take, drop}
 use Rattle.refusal.specs.Numbers.{missing, otherFirst, otherLast, noRoom}
-use Rattle.frame.specs.Hex.{unhex}
+use Rattle.frame.specs.Hex.{unhex, be}
 use Rattle.frame.specs.Field.{bigAt}
 use Rattle.frame.proofs.Unique.{once}
-use Rattle.unit.specs.Unit.{mostReference}
+use Rattle.unit.specs.Unit.{mostReference, classHM, classU, mostSegments}
 use Rattle.unit.specs.State.{subsequences, freshState}
 use Rattle.unit.specs.Kinds.{kindRefused, kindDone}
 use Rattle.unit.specs.Listed.{mostListed, numberPlace, refused, accepted}
@@ -22,10 +22,27 @@ use Rattle.preface.specs.declared.pair_line.PairLine.the-variants as pair
 use Rattle.preface.specs.declared.reference_line.ReferenceLine.the-variants as reference
 use Rattle.preface.proofs.PairLaws.{table-kept}
 use Rattle.preface.proofs.ReferenceLaws.{reference-kept}
-use Rattle.record.specs.Record.{stepOf, recordOf, recorded, output}
+use Rattle.record.specs.Record.{stepOf, recordOf, recorded, output, listedBytes}
 use Rattle.record.specs.declared.Answer.the-variants.{Refused}
-use Rattle.record.proofs.RecordLaws.{StepTaken, step-taken}
+use Rattle.record.proofs.RecordLaws.{StepTaken, step-taken, said-listed, said-taken, said-first, said-second, said-aligned}
 use Rattle.listing.specs.Lines.{linesOf, joined, kept, linesWithin}
+use Rattle.alphabet.specs.Table35.{letterN, letterOf}
+use Rattle.pairing.specs.Table60.{mateSeqId, mappingPos}
+use Rattle.block.specs.declared.edit.Edit.{Edit}
+use Rattle.ecigar.specs.Table90.{printed as written, movesRead, movesReference, total, AllPositive}
+use Rattle.bases.specs.Bases.{lettersAt}
+use Rattle.bases.proofs.ReadLaws.{getD-letters}
+use Rattle.segment.specs.Part.{partBytes, alignedBytes, unalignedBytes}
+use Rattle.segment.specs.Listed.{listedBases, listedEcigar, listedOperations, mappedIn, table92, Matches, Brought, Letter}
+use Rattle.segment.specs.declared.part.Placed.{Placed}
+use Rattle.segment.specs.declared.unaligned.Unaligned.{Unaligned as UnalignedOf}
+use Rattle.segment.specs.declared.part.Part.the-variants.{Aligned, Unaligned, Absent}
+use Rattle.segment.proofs.StandardLaws.{Accepted, listed-is-table92, listed-operations, listed-counts, listed-reads, listed-end, listed-length, listed-from, listed-lent, listed-missing, listed-edit, listed-left, listed-right, listed-letter}
+use Rattle.plan.specs.Plan.{planOf}
+use Rattle.plan.specs.Said.{Blocks, AlignedIn}
+use Rattle.plan.specs.declared.read.Plan.{Plan}
+use Rattle.plan.specs.declared.read.Planned.the-variants.{Whole}
+use Rattle.plan.proofs.PlanLaws.{first-is-aligned, first-is-plain, second-is-aligned, second-is-plain, second-is-absent}
 use Rattle.listing.specs.Files.{good, wrong}
 use Rattle.listing.specs.Listing.{line05, line06, Each, ListingLine, Numbered}
 use Rattle.listing.specs.Resuming.{bytes05, bytes06, stateAt, lastFrom, nothing, edges, edgesFrom, countOf, countsOf, place, ListedLine, ClosingLine, Closes, Continues, placeBy, add, refuse, skip, onSkip, edgesIn, printed, noRecord, torn}
@@ -47,6 +64,7 @@ use Rattle.decoder.specs.declared.Added.the-variants.{NoRoom}
 use Rattle.decoder.proofs.TableLaws.{reads-bases}
 use Rattle.decoder.proofs.LawfulLaws.{front-is-lawful}
 use Rattle.decoder.proofs.OpenedLaws.{opened-front, opened-table}
+use Rattle.decoder.proofs.FitLaws.{mate-position, mate-sequence, read-position}
 use Rattle.decoder.proofs.SymbolsLaws.{opened-lawful, taken-in-order, listing-record, listing-done}
 use Rattle.decoder.proofs.EndingLaws.{opened-ending}
 use Rattle.decoder.proofs.ListingLaws.{lines-short, listing-bytes, reference-first, unit-missing, unit-refused-alone, pair-missing, pair-refused-first, opened-calls, opened-goes-on}
@@ -84,6 +102,130 @@ turn-has-one-outcome out state t p q = (once (p .0) (q .0), once (p .1) (q .1))
 pub accepted-call-lists-its-line : (u : Unit) (reference symbols counts : List ℕ) (state : State) (line frame : List ℕ) (next : State) → stepOf u reference symbols counts state line ≡ accepted frame next
     → StepTaken u reference symbols counts state line frame next
 accepted-call-lists-its-line = step-taken
+
+-- its line says one record
+pub accepted-call-says-a-record : (u : Unit) (reference symbols counts : List ℕ) (state : State) (line frame : List ℕ) (next : State) → stepOf u reference symbols counts state line ≡ accepted frame next
+    → (p : Plan) × (planOf u reference symbols counts state line .planned ≡ Whole p)
+accepted-call-says-a-record u reference symbols counts state line frame next call = let t = step-taken u reference symbols counts state line frame next call in (t .plan, t .said)
+
+-- ---- what the standard says of it: any call that is accepted, and the record p that its line says
+
+module _ (u : Unit) (reference symbols counts : List ℕ) (state : State) (line frame : List ℕ) (next : State) (call : stepOf u reference symbols counts state line ≡ accepted frame next)
+    (p : Plan) (said : planOf u reference symbols counts state line .planned ≡ Whole p) where
+  -- the line that is listed is this record: its number and the indexes behind it, its link, its first and its second segment
+  pub record-is-listed : frame ≡ listedBytes u reference (unhex line) (state .number) next p
+  record-is-listed = said-listed u reference symbols counts state line frame next call p said
+
+  blocks : Blocks u reference (unhex line) 5 p
+  blocks = said-taken u reference symbols counts state line frame next call p said .blocks
+
+  -- in every class but U the first read is aligned
+  pub first-read-is-aligned : (u .class ≡ classU → ⊥) → (q : Placed) × (p .first ≡ Aligned q)
+  first-read-is-aligned = first-is-aligned u reference (unhex line) 5 p blocks
+
+  -- in P, N, M and I so is the second, where the record has two
+  pub second-read-is-aligned : mostSegments ≤ p .link .segments → u .class < classHM → (q : Placed) × (p .second ≡ Aligned q)
+  second-read-is-aligned = second-is-aligned u reference (unhex line) 5 p blocks
+
+  -- no read of class U is
+  pub first-read-of-u-is-unaligned : u .class ≡ classU → (s : UnalignedOf) × (p .first ≡ Unaligned s)
+  first-read-of-u-is-unaligned = first-is-plain u reference (unhex line) 5 p blocks
+
+  -- nor is the second of HM, the half-mapped pair
+  pub second-read-of-hm-is-unaligned : mostSegments ≤ p .link .segments → classHM ≤ u .class → (s : UnalignedOf) × (p .second ≡ Unaligned s)
+  second-read-of-hm-is-unaligned = second-is-plain u reference (unhex line) 5 p blocks
+
+  -- a record of one read lists no second
+  pub one-read-stands-alone : p .link .segments < mostSegments → p .second ≡ Absent
+  one-read-stands-alone = second-is-absent u reference (unhex line) 5 p blocks
+
+  -- an unaligned read is listed at position 0, with strand 0 and no E-CIGAR: its length and its bases
+  pub unaligned-read-is-listed : (s : UnalignedOf) → partBytes u reference (unhex line) (Unaligned s) ≡ be 4 0 ++ be 1 0 ++ be 2 (s .length) ++ lettersAt (u .alphabet) (unhex line) (s .at) (s .length) ++ be 2 0
+  unfolding partBytes unalignedBytes
+  unaligned-read-is-listed s = refl
+
+  -- its bases are the block's
+  pub unaligned-base-is-the-block : (s : UnalignedOf) (i : ℕ) → i < s .length → getD (lettersAt (u .alphabet) (unhex line) (s .at) (s .length)) i 0 ≡ letterOf (u .alphabet) (getD (unhex line) (s .at + i) 0)
+  unaligned-base-is-the-block s i = getD-letters (u .alphabet) (unhex line) (s .at) (s .length) i
+
+  -- the first aligned read maps to the position that the record gives
+  pub first-read-maps-to-pos : (q : Placed) → p .first ≡ Aligned q → q .position ≡ bigAt 4 (unhex line) 1
+  first-read-maps-to-pos q e = said-first u reference symbols counts state line frame next call p said q e .1
+
+  -- the second aligned read maps to the position that Table 60 gives the mate
+  pub second-read-maps-to-its-mate-position : (q : Placed) → p .second ≡ Aligned q → q .position ≡ mappingPos (bigAt 4 (unhex line) 1) (p .link .mate)
+  second-read-maps-to-its-mate-position q e = said-second u reference symbols counts state line frame next call p said q e .1
+
+  -- of its first and its second aligned read alike
+  module _ (q : Placed) (listed : AlignedIn p q) where
+    accepted-read : Accepted u reference (unhex line) q
+    accepted-read = said-aligned u reference symbols counts state line frame next call p said q listed
+
+    -- what is listed of a read: where it maps, its strand, its length, its bases, and its E-CIGAR
+    pub read-is-listed : partBytes u reference (unhex line) (Aligned q)
+        ≡ be 4 (q .position) ++ be 1 (q .segment .rcomp) ++ be 2 (q .segment .length) ++ listedBases u reference (unhex line) q ++ be 2 (length (listedEcigar u (unhex line) q)) ++ listedEcigar u (unhex line) q
+    unfolding partBytes alignedBytes
+    read-is-listed = refl
+
+    -- its E-CIGAR is the string that Table 92 makes of the mismatches and clips in its block
+    pub ecigar-is-table-92 : listedEcigar u (unhex line) q ≡ table92 u (unhex line) q
+    ecigar-is-table-92 = listed-is-table92 u reference (unhex line) q accepted-read
+
+    -- it is written from rows of Table 90
+    pub ecigar-is-written-by-table-90 : listedEcigar u (unhex line) q ≡ written (listedOperations u (unhex line) q)
+    ecigar-is-written-by-table-90 = listed-operations u reference (unhex line) q accepted-read
+
+    -- none of them says that 0 bases match, are inserted, deleted or clipped
+    pub ecigar-counts-are-positive : AllPositive (listedOperations u (unhex line) q)
+    ecigar-counts-are-positive = listed-counts u reference (unhex line) q accepted-read
+
+    -- together they use up every base of the read
+    pub ecigar-uses-up-the-read : total movesRead (listedOperations u (unhex line) q) ≡ q .segment .length
+    ecigar-uses-up-the-read = listed-reads u reference (unhex line) q accepted-read
+
+    -- the read maps to a position of its unit
+    pub read-begins-in-its-unit : (u .start ≤ q .position) × (q .position ≤ u .end)
+    read-begins-in-its-unit = (accepted-read .place .from, accepted-read .place .to)
+
+    -- and its E-CIGAR reaches no further than the unit's last position
+    pub read-ends-in-its-unit : q .position + total movesReference (listedOperations u (unhex line) q) ≤ u .end + 1
+    read-ends-in-its-unit = listed-end u reference (unhex line) q accepted-read
+
+    -- as many bases are listed as the read is long
+    pub read-has-its-length : length (listedBases u reference (unhex line) q) ≡ q .segment .length
+    read-has-its-length = listed-length u reference (unhex line) q accepted-read
+
+    -- every base that is mapped matches the reference at one position, or is substituted or inserted by an edit
+    pub mapped-base-comes-from : (i : ℕ) → i < mappedIn q → ((at : ℕ) × Matches u (unhex line) q i at) ⊎ ((e : Edit) × Brought u (unhex line) q i e)
+    mapped-base-comes-from = listed-from u reference (unhex line) q accepted-read
+
+    -- a base that matches is the reference's base at its position
+    pub matching-base-is-the-reference : (i at : ℕ) → Matches u (unhex line) q i at → u .first ≤ at → at < u .first + length reference
+        → getD (listedBases u reference (unhex line) q) (q .segment .clips .«left_soft» + i) 0 ≡ letterOf (u .alphabet) (getD reference (at - u .first) 0)
+    matching-base-is-the-reference = listed-lent u reference (unhex line) q accepted-read
+
+    -- and N where no base of the reference is lent for its position (10.2.2: padded with N)
+    pub base-beyond-the-reference-is-n : (i at : ℕ) → Matches u (unhex line) q i at → (u .first ≤ at → at < u .first + length reference → ⊥)
+        → getD (listedBases u reference (unhex line) q) (q .segment .clips .«left_soft» + i) 0 ≡ letterN
+    base-beyond-the-reference-is-n = listed-missing u reference (unhex line) q accepted-read
+
+    -- a base that is substituted or inserted is the letter that the block gives for it
+    pub edited-base-is-the-edit : (i : ℕ) (e : Edit) → Brought u (unhex line) q i e
+        → getD (listedBases u reference (unhex line) q) (q .segment .clips .«left_soft» + i) 0 ≡ letterOf (u .alphabet) (e .symbol)
+    edited-base-is-the-edit = listed-edit u reference (unhex line) q accepted-read
+
+    -- the bases that are soft-clipped on the left are the block's
+    pub left-clip-is-the-block : (i : ℕ) → i < q .segment .clips .«left_soft» → getD (listedBases u reference (unhex line) q) i 0 ≡ letterOf (u .alphabet) (getD (unhex line) (q .segment .«soft_at» + i) 0)
+    left-clip-is-the-block = listed-left u reference (unhex line) q accepted-read
+
+    -- and those on the right
+    pub right-clip-is-the-block : (i : ℕ) → i < q .segment .clips .«right_soft»
+        → getD (listedBases u reference (unhex line) q) (q .segment .clips .«left_soft» + mappedIn q + i) 0 ≡ letterOf (u .alphabet) (getD (unhex line) (q .segment .«soft_at» + q .segment .clips .«left_soft» + i) 0)
+    right-clip-is-the-block = listed-right u reference (unhex line) q accepted-read
+
+    -- every base is a letter of the unit's alphabet
+    pub every-base-is-a-letter : (i : ℕ) → i < q .segment .length → Letter (u .alphabet) (getD (listedBases u reference (unhex line) q) i 0)
+    every-base-is-a-letter = listed-letter u reference (unhex line) q accepted-read
 
 module _ (refFile unitFile : List ℕ) where
   -- "The reference is read first": where one of its lines is refused, the 05 line stands alone, whatever the unit file is
@@ -133,6 +275,18 @@ module _ (refFile unitFile : List ℕ) where
   pub indexes-are-symbols-taken : (i : ℕ) → suc i < length (restListed refFile unitFile) → (o : Opened refFile unitFile) × RecordLine o i (getD (restListed refFile unitFile) i [])
   indexes-are-symbols-taken = listing-record refFile unitFile
 
+  -- in its four bytes the mate's position stands whole, in its two bytes the mate's sequence id, and a read's position in its four: none is cut to the last bytes of a larger number
+  module _ (o : Opened refFile unitFile) (i : ℕ) (line : List ℕ) (r : RecordLine o i line) (p : Plan)
+      (said : planOf (o .unit) (o .reference) (tableOf (o .rows)) (countsIn (o .rows)) (r .before) (getD (o .lines) i []) .planned ≡ Whole p) where
+    pub mate-position-is-whole : mappingPos (p .pos) (p .link .mate) < 2 ^ 32
+    mate-position-is-whole = mate-position o i line r p said
+
+    pub mate-sequence-is-whole : mateSeqId (o .unit .sequence) (p .link .mate) < 2 ^ 16
+    mate-sequence-is-whole = mate-sequence o i line r p said
+
+    pub read-position-is-whole : (q : Placed) → AlignedIn p q → q .position < 2 ^ 32
+    read-position-is-whole = read-position o i line r p said
+
   -- the symbols taken from a subsequence by the first k records are its first ones: in order, each once
   pub symbols-are-taken-in-order : (o : Opened refFile unitFile) (s : ℕ) → s < subsequences → (k : ℕ) → symbolsTaken o s k ≡ take (length (symbolsTaken o s k)) (getD (o .rows) s [])
   symbols-are-taken-in-order = taken-in-order
@@ -146,7 +300,7 @@ module _ (refFile unitFile : List ℕ) where
   pub last-line-says-why : (o : Opened refFile unitFile) → Ending o (lastFrom (firstListed refFile unitFile) (restListed refFile unitFile))
   last-line-says-why = opened-ending
 
-  -- where it is 06, every record is listed, and every pair symbol was taken once, in order: none is left
+  -- where it is 06, it carries the record count, every record is listed, and every pair symbol was taken once, in order: none is left
   pub done-takes-every-symbol : (count : ℕ) → lastFrom (firstListed refFile unitFile) (restListed refFile unitFile) ≡ line06 count → (o : Opened refFile unitFile) × AllTaken o
   done-takes-every-symbol = listing-done refFile unitFile
 

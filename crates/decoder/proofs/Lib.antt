@@ -4,6 +4,7 @@ pub mod LawfulLaws
 pub mod OpenedLaws
 pub mod SymbolsLaws
 pub mod EndingLaws
+pub mod FitLaws
 pub mod ListingLaws
 pub mod TurnLaws
 pub mod Demands

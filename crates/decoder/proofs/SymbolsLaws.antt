@@ -25,8 +25,9 @@ use Rattle.pairing.proofs.Taking.{raised-same, raised-other, raised-long}
 use Rattle.pairing.proofs.Laws.{pair-follows, pair-reads}
 use Rattle.record.specs.Record.{stepOf}
 use Rattle.record.proofs.RecordLaws.{step-taken, step-accepted}
+use Rattle.listing.specs.Lines.{same}
 use Rattle.listing.specs.Record.{Setup, Accepted, Lawful}
-use Rattle.listing.specs.Listing.{Front, alone, unpaired, ready, line06, onStep, records, onAccepted, stateBehind, firstOf, restOf, LawfulFront, Finished}
+use Rattle.listing.specs.Listing.{Front, alone, unpaired, ready, line06, onStep, records, onAccepted, stateBehind, firstOf, restOf, LawfulFront, Finished, line05, lastLine}
 use Rattle.listing.specs.Resuming.{lastFrom}
 use Rattle.listing.proofs.ListingLaws.{not-06}
 use Rattle.listing.proofs.Demand2.{done-leaves-no-symbol}
@@ -174,18 +175,25 @@ call-at {E} w (suc k) state (l ∷ ls) x (suc i) h = by (E .step state l) refl h
         let q : state .number + suc i ≡ next .number + i = omega (arith, a .number) in
         rw q (go next (a .indexes) i (omega arith))
 
+-- a closing 06 line carries the record count
+closing-count : (E : Setup) (state : State) (ls : List (List ℕ)) (q : ℕ) → lastLine E state ls ≡ line06 q → lastLine E state ls ≡ line06 (E .count)
+unfolding lastLine
+closing-count E state [] q e = by-test (same (state .index) (E .counts)) (λ t. simp t) (λ t. not-06 (E .count) missing q (simp t at e))
+closing-count E state (l ∷ ls) q e = not-06 (E .count) missing q e
+
 -- where the last line is 06, each record has its line
-all-listed : (E : Setup) (k : ℕ) (state : State) (ls : List (List ℕ)) (z : List ℕ) (q : ℕ) → lastFrom z (records E k state ls) ≡ line06 q → length (records E k state ls) ≡ suc k
+all-listed : (E : Setup) (k : ℕ) (state : State) (ls : List (List ℕ)) (z : List ℕ) (q : ℕ) → lastFrom z (records E k state ls) ≡ line06 q
+    → (length (records E k state ls) ≡ suc k) × (lastFrom z (records E k state ls) ≡ line06 (E .count))
 unfolding records lastFrom
-all-listed E zero state ls z q e = refl
+all-listed E zero state ls z q e = (refl, closing-count E state ls q e)
 all-listed E (suc k) state [] z q e = not-06 (state .number) missing q e
 all-listed E (suc k) state (l ∷ ls) z q e = by (E .step state l) e (λ next. all-listed E k next ls)
   where
     by : (t : Step) → lastFrom z (onStep (state .number) t (λ next. records E k next ls)) ≡ line06 q
-        → ((next : State) (y : List ℕ) (r : ℕ) → lastFrom y (records E k next ls) ≡ line06 r → length (records E k next ls) ≡ suc k)
-        → length (onStep (state .number) t (λ next. records E k next ls)) ≡ suc (suc k)
+        → ((next : State) (y : List ℕ) (r : ℕ) → lastFrom y (records E k next ls) ≡ line06 r → (length (records E k next ls) ≡ suc k) × (lastFrom y (records E k next ls) ≡ line06 (E .count)))
+        → (length (onStep (state .number) t (λ next. records E k next ls)) ≡ suc (suc k)) × (lastFrom z (onStep (state .number) t (λ next. records E k next ls)) ≡ line06 (E .count))
     by (refused n) e go = not-06 (state .number) n q e
-    by (accepted frame next) e go = ap suc (go next (lineOfBytes frame) q e)
+    by (accepted frame next) e go = let g = go next (lineOfBytes frame) q e in (ap suc (g .0), g .1)
 
 -- ---- two files
 
@@ -246,7 +254,8 @@ module _ {refFile unitFile : List ℕ} (o : Opened refFile unitFile) where
   unfolding firstOf restOf
   opened-done count e =
       record {
-        records = rw (opened-front o) (all-listed (setupIn o) (o .unit .records) freshState (o .lines) (o .first) count e);
+        records = rw (opened-front o) (all-listed (setupIn o) (o .unit .records) freshState (o .lines) (o .first) count e .0);
+        count = rw (opened-front o) (all-listed (setupIn o) (o .unit .records) freshState (o .lines) (o .first) count e .1);
         symbols = opened-all (done-leaves-no-symbol (setupIn o) opened-lawful count e);
       }
 

@@ -14,8 +14,10 @@ use Rattle.unit.specs.declared.State.{State}
 use Rattle.pairing.specs.Take.{taken, symbolOf}
 use Rattle.pairing.specs.Reading.{recordTakes}
 use Rattle.record.specs.Record.{stepOf}
+use Rattle.listing.specs.Listing.{line06}
+use Rattle.listing.specs.Resuming.{lastFrom}
 use Rattle.decoder.specs.Files.{countsIn, tableOf}
-use Rattle.decoder.specs.Decoder.{restListed, Opened}
+use Rattle.decoder.specs.Decoder.{firstListed, restListed, Opened}
 
 -- of the subsequences that a record takes a symbol of, the symbols of subsequence s, where `next N` is the next symbol of subsequence N
 unfoldable pub symbolsOf : ℕ → (ℕ → ℕ) → List ℕ → List ℕ
@@ -53,7 +55,8 @@ pub record RecordLine {refFile unitFile : List ℕ} (o : Opened refFile unitFile
   pub head : frame ≡ headOf i next ++ tail
   pub index : (s : ℕ) → s < subsequences → taken next s ≡ length (symbolsTaken o s (suc i))
 
--- every record is listed, and every pair symbol is taken, once and in order
+-- every record is listed, the 06 line carries the record count, and every pair symbol is taken, once and in order
 pub record AllTaken {refFile unitFile : List ℕ} (o : Opened refFile unitFile) : Type 0 where
   pub records : length (restListed refFile unitFile) ≡ suc (o .unit .records)
+  pub count : lastFrom (firstListed refFile unitFile) (restListed refFile unitFile) ≡ line06 (o .unit .records)
   pub symbols : (s : ℕ) → s < subsequences → symbolsTaken o s (o .unit .records) ≡ getD (o .rows) s []

@@ -36,7 +36,7 @@ use Rattle.segment.specs.declared.part.PartRead.the-variants as part
 use Rattle.segment.proofs.PlaceLaws.{place-inside}
 use Rattle.plan.specs.Plan.{secondPart}
 use Rattle.plan.specs.declared.read.Plan.{Plan}
-use Rattle.plan.proofs.PlanLaws.{Second, alone, behind, PlanTaken}
+use Rattle.plan.specs.Said.{Second, alone, behind, PlanTaken}
 
 -- ---- a mate at a delta stands in the same record
 
@@ -120,7 +120,7 @@ module _ (u : UnitOf) (reference symbols counts : List ℕ) (state : State) (lin
 
       by : Second u reference (unhex line) p (taken .blocks .next .at) → p .pos + delta ≤ u .end
       by (alone few _) = absurd (omega (arith, two))
-      by (behind next q) = rw e at (placed-inside u reference (unhex line) _ _ (p .second) next (simp (lt-ltb _ _ class) at q) .1)
+      by (behind _ next q) = rw e at (placed-inside u reference (unhex line) _ _ (p .second) next (simp (lt-ltb _ _ class) at q) .1)
 
   pub mate-fits : UnitValid u → u .end < 2 ^ 32 → ((at : ℕ) → getD symbols at 0 < 2 ^ 32) → PlanTaken u reference symbols counts state line p moved → mappingPos (p .pos) (p .link .mate) < 2 ^ 32
   mate-fits valid end every taken = by (p .link .mate) refl (link-within u symbols counts state (2 ^ 32) (valid .sequence) every (p .link) (taken .linked) .mate)

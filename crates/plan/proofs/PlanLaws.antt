@@ -2,9 +2,9 @@
 -- Assumes nothing.
 use mathlib.Core.Path.{_≡_, refl, sym, ap, _∙_}
 use mathlib.Core.List.{List}
-use Prim.Native.Nat.{ℕ, _+_, _<_}
+use Prim.Native.Nat.{ℕ, _+_, _<_, _≤_}
 use native.Mathlib.Omega.{arith}
-use borrow.Author.Tests.{ltb-true}
+use borrow.Author.Tests.{ltb-true, ltb-false, lt-ltb, le-ltb, eq-eqb, ne-eqb, eqb-false}
 use lib.Dec.{ltb, eqb}
 use lib.ListN.{length, getD}
 use Rattle.refusal.specs.Numbers.{malformed, misframed, positionOut}
@@ -19,34 +19,29 @@ use Rattle.unit.specs.Unit.{classHM, classU, mostSegments}
 use Rattle.unit.specs.declared.Unit.{Unit}
 use Rattle.unit.specs.declared.State.{State}
 use Rattle.frame.proofs.StepLaws.{past-line, past-field, past-refusal, past-match}
+use Rattle.unit.proofs.ValidLaws.{UnitValid}
+use Rattle.pairing.specs.Table60.{mappingPos}
 use Rattle.pairing.specs.Pairing.{pairOf}
 use Rattle.pairing.specs.declared.Answer.{Answer}
 use Rattle.pairing.specs.declared.Answer.the-variants as pair
 use Rattle.pairing.specs.declared.Link.{Link}
 use Rattle.segment.specs.Part.{partBytes, partLength}
+use Rattle.segment.specs.declared.part.Placed.{Placed}
+use Rattle.segment.specs.declared.unaligned.Unaligned.{Unaligned as UnalignedOf}
 use Rattle.segment.specs.declared.part.Part.{Part}
-use Rattle.segment.specs.declared.part.Part.the-variants.{Absent}
+use Rattle.segment.specs.declared.part.Part.the-variants.{Aligned, Unaligned, Absent}
 use Rattle.segment.specs.declared.part.PartRead.{PartRead}
 use Rattle.segment.specs.declared.part.PartRead.the-variants as part
 use Rattle.segment.proofs.PartLaws.{Taken, placed-taken, plain-taken}
+use Rattle.segment.proofs.StandardLaws.{Accepted, placed-accepted, placed-aligned, plain-unaligned}
 use Rattle.plan.specs.Plan.{plan, finished, firstPart, secondPart, afterSecond, fromSecond, afterFirst, fromFirst, fromPos, refusedReading, settled, afterAnswer, fromKind, planOf, ReadyPlan}
+use Rattle.plan.specs.Said.{Second, alone, behind, Blocks, PlanTaken}
 use Rattle.plan.specs.declared.read.Plan.{Plan}
 use Rattle.plan.specs.declared.read.Planned.{Planned}
 use Rattle.plan.specs.declared.read.Planned.the-variants.{Whole, Refused}
 use Rattle.plan.specs.declared.read.Reading.{Reading}
 
 -- ---- the segments of an accepted record
-
--- the second: the record has none, or its block stands behind the first
-pub data Second (u : Unit) (reference frame : List ℕ) (p : Plan) (at : ℕ) : Type 0 where
-  alone : p .link .segments < mostSegments → p .second ≡ Absent → Second u reference frame p at
-  behind : (next : Cursor) → secondPart u reference frame (p .link) (p .pos) at ≡ part.Whole (p .second) next → Second u reference frame p at
-
--- both, from a place of the frame on
-pub record Blocks (u : Unit) (reference frame : List ℕ) (at : ℕ) (p : Plan) : Type 0 where
-  pub next : Cursor
-  pub first : firstPart u reference frame (p .pos) at ≡ part.Whole (p .first) next
-  pub second : Second u reference frame p (next .at)
 
 -- the same, of a record of this link and position
 record BlocksOf (u : Unit) (reference frame : List ℕ) (link : Link) (pos at : ℕ) (p : Plan) : Type 0 where
@@ -70,13 +65,13 @@ module _ (u : Unit) (reference frame : List ℕ) (p : Plan) where
         (λ t.
         let i : p ≡ plan link pos first Absent = finished-is _ (next .at) (simp t at q) in
         rw i record { link-is = refl; pos-is = refl; blocks = record { next = next; first = f; second = alone (ltb-true _ _ t) refl } })
-        (λ t. by (secondPart u reference frame link pos (next .at)) refl (simp t at q))
+        (λ t. by (ltb-false _ _ t) (secondPart u reference frame link pos (next .at)) refl (simp t at q))
       where
-        by : (x : PartRead) → secondPart u reference frame link pos (next .at) ≡ x → afterSecond frame link pos first x ≡ Whole p → BlocksOf u reference frame link pos at p
-        by (part.Refused n) e z = absurd (never z)
-        by (part.Whole second last) e z =
+        by : mostSegments ≤ link .segments → (x : PartRead) → secondPart u reference frame link pos (next .at) ≡ x → afterSecond frame link pos first x ≡ Whole p → BlocksOf u reference frame link pos at p
+        by two (part.Refused n) e z = absurd (never z)
+        by two (part.Whole second last) e z =
             let i : p ≡ plan link pos first second = finished-is _ (last .at) z in
-            rw i record { link-is = refl; pos-is = refl; blocks = record { next = next; first = f; second = behind last e } }
+            rw i record { link-is = refl; pos-is = refl; blocks = record { next = next; first = f; second = behind two last e } }
 
     first-blocks : (at : ℕ) → fromFirst u reference frame link pos at ≡ Whole p → BlocksOf u reference frame link pos at p
     unfolding fromFirst
@@ -123,20 +118,9 @@ module _ (u : Unit) (reference frame : List ℕ) (bytes : (i : ℕ) → getD fra
 
       by : Second u reference frame p (b .next .at) → ReadyPlan u reference frame p
       by (alone few e) = both-ready p _ 0 first (rw e absent-taken)
-      by (behind next e) = both-ready p _ _ first (second-taken (p .link) (p .pos) (b .next .at) (p .second) next e)
+      by (behind two next e) = both-ready p _ _ first (second-taken (p .link) (p .pos) (b .next .at) (p .second) next e)
 
 -- ---- the whole line
-
--- a well-formed line of kind 03; its link and the state are what the pair symbols say; pos and the blocks stand behind the kind
-pub record PlanTaken (u : Unit) (reference symbols counts : List ℕ) (state : State) (line : List ℕ) (p : Plan) (moved : State) : Type 0 where
-  pub size : ℕ
-  pub well-formed : lineOf line ≡ Frame size
-  pub kind : bigAt 1 (unhex line) 0 ≡ kindRecord
-  pub linked : pairOf u symbols counts state .answer ≡ pair.Linked (p .link)
-  pub moved-is : moved ≡ pairOf u symbols counts state .state
-  pub pos-is : p .pos ≡ bigAt 4 (unhex line) 1
-  pub blocks : Blocks u reference (unhex line) 5 p
-  pub ready : ReadyPlan u reference (unhex line) p
 
 module _ (u : Unit) (reference symbols counts : List ℕ) (state : State) (line : List ℕ) (p : Plan) (moved : State) where
   abbrev whole : Reading
@@ -177,3 +161,84 @@ module _ (u : Unit) (reference symbols counts : List ℕ) (state : State) (line 
 
   pub plan-ready : planOf u reference symbols counts state line ≡ record { planned = Whole p; state = moved } → ReadyPlan u reference (unhex line) p
   plan-ready q = plan-taken q .ready
+
+-- ---- which of its segments are aligned (10.4.10): all in P, N, M and I, the first in HM, none in U
+
+never-plain : {P : Type 0} {q : Placed} → (s : UnalignedOf) × (Aligned q ≡ Unaligned s) → P
+never-plain w = let e = w .1 in absurd (let z : _≡_ {A = ℕ} 0 1 = cc in omega arith)
+
+module _ (u : Unit) (reference frame : List ℕ) where
+  first-placed : (pos at : ℕ) (p : Part) (next : Cursor) → firstPart u reference frame pos at ≡ part.Whole p next → (u .class ≡ classU → ⊥) → (q : Placed) × (p ≡ Aligned q)
+  unfolding firstPart
+  first-placed pos at p next e h = placed-aligned u frame p next reference pos at (simp (ne-eqb _ _ h) at e)
+
+  first-plain : (pos at : ℕ) (p : Part) (next : Cursor) → firstPart u reference frame pos at ≡ part.Whole p next → u .class ≡ classU → (s : UnalignedOf) × (p ≡ Unaligned s)
+  unfolding firstPart
+  first-plain pos at p next e h = plain-unaligned u frame p next at (simp (eq-eqb _ _ h) at e)
+
+  second-placed : (link : Link) (pos at : ℕ) (p : Part) (next : Cursor) → secondPart u reference frame link pos at ≡ part.Whole p next → u .class < classHM → (q : Placed) × (p ≡ Aligned q)
+  unfolding secondPart
+  second-placed link pos at p next e h = placed-aligned u frame p next reference _ at (simp (lt-ltb _ _ h) at e)
+
+  second-plain : (link : Link) (pos at : ℕ) (p : Part) (next : Cursor) → secondPart u reference frame link pos at ≡ part.Whole p next → classHM ≤ u .class → (s : UnalignedOf) × (p ≡ Unaligned s)
+  unfolding secondPart
+  second-plain link pos at p next e h = plain-unaligned u frame p next at (simp (le-ltb _ _ h) at e)
+
+  module _ (at : ℕ) (p : Plan) (b : Blocks u reference frame at p) where
+    pub first-is-aligned : (u .class ≡ classU → ⊥) → (q : Placed) × (p .first ≡ Aligned q)
+    first-is-aligned = first-placed (p .pos) at (p .first) (b .next) (b .first)
+
+    pub first-is-plain : u .class ≡ classU → (s : UnalignedOf) × (p .first ≡ Unaligned s)
+    first-is-plain = first-plain (p .pos) at (p .first) (b .next) (b .first)
+
+    pub second-is-aligned : mostSegments ≤ p .link .segments → u .class < classHM → (q : Placed) × (p .second ≡ Aligned q)
+    second-is-aligned two h = by (b .second)
+      where
+        by : Second u reference frame p (b .next .at) → (q : Placed) × (p .second ≡ Aligned q)
+        by (alone few none) = absurd (omega arith)
+        by (behind _ next f) = second-placed (p .link) (p .pos) (b .next .at) (p .second) next f h
+
+    pub second-is-plain : mostSegments ≤ p .link .segments → classHM ≤ u .class → (s : UnalignedOf) × (p .second ≡ Unaligned s)
+    second-is-plain two h = by (b .second)
+      where
+        by : Second u reference frame p (b .next .at) → (s : UnalignedOf) × (p .second ≡ Unaligned s)
+        by (alone few none) = absurd (omega arith)
+        by (behind _ next f) = second-plain (p .link) (p .pos) (b .next .at) (p .second) next f h
+
+    pub second-is-absent : p .link .segments < mostSegments → p .second ≡ Absent
+    second-is-absent few = by (b .second)
+      where
+        by : Second u reference frame p (b .next .at) → p .second ≡ Absent
+        by (alone _ none) = none
+        by (behind two next f) = absurd (omega arith)
+
+-- ---- its aligned segments are accepted ones
+
+module _ (u : Unit) (reference frame : List ℕ) (bytes : (i : ℕ) → getD frame i 0 < 256) (valid : UnitValid u) (q : Placed) where
+  -- in every class but U the first stands at pos
+  first-accepted : (pos at : ℕ) (next : Cursor) → firstPart u reference frame pos at ≡ part.Whole (Aligned q) next → Accepted u reference frame q × (q .position ≡ pos)
+  unfolding firstPart
+  first-accepted pos at next e =
+      by-test (eqb (u .class) classU)
+      (λ t. never-plain (plain-unaligned u frame (Aligned q) next at (simp t at e)))
+      (λ t. placed-accepted u reference frame pos q next at bytes (valid .class-least) (omega (arith, valid .class-most, eqb-false (u .class) classU t)) (simp t at e))
+
+  -- in the classes before HM the second stands at the mate's position
+  second-accepted : (link : Link) (pos at : ℕ) (next : Cursor) → secondPart u reference frame link pos at ≡ part.Whole (Aligned q) next
+      → Accepted u reference frame q × (q .position ≡ mappingPos pos (link .mate))
+  unfolding secondPart
+  second-accepted link pos at next e =
+      by-test (ltb (u .class) classHM)
+      (λ t. placed-accepted u reference frame (mappingPos pos (link .mate)) q next at bytes (valid .class-least) (omega (arith, ltb-true (u .class) classHM t)) (simp t at e))
+      (λ t. never-plain (plain-unaligned u frame (Aligned q) next at (simp t at e)))
+
+  module _ (at : ℕ) (p : Plan) (b : Blocks u reference frame at p) where
+    pub first-aligned : p .first ≡ Aligned q → Accepted u reference frame q × (q .position ≡ p .pos)
+    first-aligned e = first-accepted (p .pos) at (b .next) (b .first ∙ ap (λ (x : Part). part.Whole x (b .next)) e)
+
+    pub second-aligned : p .second ≡ Aligned q → Accepted u reference frame q × (q .position ≡ mappingPos (p .pos) (p .link .mate))
+    second-aligned e = by (b .second)
+      where
+        by : Second u reference frame p (b .next .at) → Accepted u reference frame q × (q .position ≡ mappingPos (p .pos) (p .link .mate))
+        by (alone few none) = absurd (let w : Absent ≡ Aligned q = sym none ∙ e in let z : _≡_ {A = ℕ} 0 1 = cc in omega arith)
+        by (behind two next f) = second-accepted (p .link) (p .pos) (b .next .at) next (f ∙ ap (λ (x : Part). part.Whole x next) e)

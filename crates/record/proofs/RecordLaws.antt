@@ -1,6 +1,7 @@
 -- The laws of the record call: its refusals are numbers of the table below 17, and what an accepted line says of the 04 line and the next state.
 -- Assumes nothing.
 use mathlib.Core.Path.{_≡_, refl, sym, ap, _∙_}
+use mathlib.Core.Logic.{⊎-elim}
 use mathlib.Core.List.{List, _++_}
 use Prim.Native.Nat.{ℕ, _+_, _-_, _*_, _<_, _≤_}
 use native.Mathlib.Omega.{arith}
@@ -10,24 +11,30 @@ use lib.ListN.{length, take, getD, length-append}
 use lib.Seq.{length-take-le}
 use Rattle.refusal.specs.Numbers.{fine, noRoom}
 use Rattle.frame.specs.Hex.{Bytes, unhex}
-use Rattle.frame.specs.Line.{lineDigits, lineEnd, lineOf}
+use Rattle.frame.specs.Line.{lineDigits, lineEnd, lineOf, lineWithin}
 use Rattle.frame.specs.declared.line.Line.the-variants.{Frame, Malformed}
-use Rattle.frame.proofs.HexLaws.{by-test}
+use Rattle.frame.proofs.HexLaws.{by-test, byte-lt}
 use Rattle.frame.proofs.LineLaws.{line-too-long, line-unended}
+use Rattle.frame.specs.Field.{bigAt}
 use Rattle.unit.specs.State.{subsequences}
 use Rattle.unit.specs.Listed.{mostListed, leastListed, headOf, Step, refused, accepted}
 use Rattle.unit.specs.declared.Unit.{Unit as UnitOf}
 use Rattle.unit.specs.declared.State.{State}
+use Rattle.pairing.specs.Table60.{mappingPos}
 use Rattle.pairing.specs.Pairing.{pairOf}
 use Rattle.pairing.specs.declared.Link.{Link}
 use Rattle.pairing.proofs.Taking.{one-of}
 use Rattle.pairing.proofs.Laws.{pair-follows, pair-within}
+use Rattle.segment.specs.declared.part.Placed.{Placed}
+use Rattle.segment.specs.declared.part.Part.the-variants.{Aligned}
+use Rattle.segment.proofs.StandardLaws.{Accepted}
 use Rattle.plan.specs.Lent.{lentRefusal}
 use Rattle.plan.specs.Plan.{planOf}
+use Rattle.plan.specs.Said.{PlanTaken, AlignedIn}
 use Rattle.plan.specs.declared.read.Plan.{Plan}
 use Rattle.plan.specs.declared.read.Planned.{Planned}
 use Rattle.plan.specs.declared.read.Planned.the-variants.{Whole, Refused}
-use Rattle.plan.proofs.PlanLaws.{PlanTaken, plan-taken}
+use Rattle.plan.proofs.PlanLaws.{plan-taken, first-aligned, second-aligned}
 use Rattle.plan.proofs.RefusalLaws.{EarlyPlan, lent-early, plan-early}
 use Rattle.plan.proofs.StateLaws.{LentTaken, lent-taken}
 use Rattle.record.specs.Record.{linkBytes, listedBytes, after, planned, stepOf, withRoom, recordOf}
@@ -66,6 +73,7 @@ pub record StepTaken (u : UnitOf) (reference symbols counts : List ℕ) (state :
   pub lent : LentTaken u (length reference) (length symbols) counts state
   pub plan : Plan
   pub moved : State
+  pub said : planOf u reference symbols counts state line .planned ≡ Whole plan
   pub taken : PlanTaken u reference symbols counts state line plan moved
   pub frame-is : frame ≡ listedBytes u reference (unhex line) (state .number) (after state moved) plan
   pub next-is : next ≡ after state moved
@@ -101,6 +109,7 @@ module _ (u : UnitOf) (reference symbols counts : List ℕ) (state : State) (lin
             lent = l;
             plan = p;
             moved = moved;
+            said = e;
             taken = plan-taken u reference symbols counts state line p moved (ap (λ (x : Planned). record { planned = x; state = moved }) e);
             frame-is = cc;
             next-is = cc;
@@ -129,6 +138,39 @@ module _ (u : UnitOf) (reference symbols counts : List ℕ) (state : State) (lin
 
   pub step-accepted : stepOf u reference symbols counts state line ≡ accepted frame next → length (state .index) ≡ subsequences → Listed u counts state line frame next
   step-accepted q eight = let s = step-taken q in listed (s .plan) (s .moved) (s .lent) (s .taken) (s .frame-is) (s .next-is) eight
+
+-- ---- what the line said is listed, and its aligned segments are accepted ones
+
+module _ (u : UnitOf) (reference symbols counts : List ℕ) (state : State) (line frame : List ℕ) (next : State) (call : stepOf u reference symbols counts state line ≡ accepted frame next)
+    (p : Plan) (said : planOf u reference symbols counts state line .planned ≡ Whole p) where
+  taken : StepTaken u reference symbols counts state line frame next
+  taken = step-taken u reference symbols counts state line frame next call
+
+  plan-is : taken .plan ≡ p
+  plan-is = let e : Whole (taken .plan) ≡ Whole p = sym (taken .said) ∙ said in cc
+
+  pub said-listed : frame ≡ listedBytes u reference (unhex line) (state .number) next p
+  said-listed =
+      taken .frame-is
+      ∙ ap (λ (x : State). listedBytes u reference (unhex line) (state .number) x (taken .plan)) (sym (taken .next-is))
+      ∙ ap (listedBytes u reference (unhex line) (state .number) next) plan-is
+
+  pub said-taken : PlanTaken u reference symbols counts state line p (planOf u reference symbols counts state line .state)
+  said-taken = plan-taken u reference symbols counts state line p _ (ap (λ (x : Planned). record { planned = x; state = planOf u reference symbols counts state line .state }) said)
+
+  module _ (q : Placed) where
+    pub said-first : p .first ≡ Aligned q → Accepted u reference (unhex line) q × (q .position ≡ bigAt 4 (unhex line) 1)
+    said-first e =
+        let a = first-aligned u reference (unhex line) (byte-lt line) (taken .lent .unit) q 5 p (said-taken .blocks) e in
+        (a .0, a .1 ∙ said-taken .pos-is)
+
+    pub said-second : p .second ≡ Aligned q → Accepted u reference (unhex line) q × (q .position ≡ mappingPos (bigAt 4 (unhex line) 1) (p .link .mate))
+    said-second e =
+        let a = second-aligned u reference (unhex line) (byte-lt line) (taken .lent .unit) q 5 p (said-taken .blocks) e in
+        (a .0, a .1 ∙ ap (λ (pos : ℕ). mappingPos pos (p .link .mate)) (said-taken .pos-is))
+
+    pub said-aligned : AlignedIn p q → Accepted u reference (unhex line) q
+    said-aligned i = ⊎-elim (λ e. said-first e .0) (λ e. said-second e .0) i
 
 -- ---- room for the longest line
 

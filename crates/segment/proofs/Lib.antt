@@ -5,4 +5,5 @@ pub mod SymbolLaws
 pub mod WriteLaws
 pub mod ReadyLaws
 pub mod PartLaws
+pub mod StandardLaws
 pub mod Unique

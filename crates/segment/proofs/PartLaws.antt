@@ -54,14 +54,14 @@ aligned-long : (u : Unit) (reference frame : List ℕ) (position : ℕ) (a : Ali
     → length (partBytes u reference frame (placedPart position a)) ≡ partLength (placedPart position a)
 unfolding partBytes alignedBytes partLength
 aligned-long u reference frame position a r =
-    let fit : Acceptable (u .class) (u .alphabet) frame (a .segment) = record { clips = omega (arith, r .soft); edits = r .sound } in
+    let fit : Acceptable (u .class) (u .alphabet) frame (a .segment) = record { clips = r .sides .soft; edits = r .sound } in
     simp (length-append, length-be)
     (omega (arith, r .text, read-length (u .class) (u .alphabet) frame reference (u .first) position (a .segment) fit))
 
 aligned-most : (u : Unit) (frame : List ℕ) (position : ℕ) (a : AlignedOf) → ReadyBlock (u .class) (u .alphabet) frame a → partLength (placedPart position a) ≤ mostPart
 unfolding partLength
 aligned-most u frame position a r =
-    omega (arith, r .text, r .most, ecigar-most (u .class) (u .alphabet) frame (a .segment) (r .few) (r .most) (r .fit) (r .sound))
+    omega (arith, r .text, r .sides .most, ecigar-most (u .class) (u .alphabet) frame (a .segment) (r .few) (r .sides .most) (r .sides .fit) (r .sound))
 
 aligned-taken : (u : Unit) (reference frame : List ℕ) (position : ℕ) (a : AlignedOf) (p : Part) (next : Cursor) → ReadyBlock (u .class) (u .alphabet) frame a
     → placed u reference frame position a ≡ Whole p next → Taken u reference frame p (next .at)

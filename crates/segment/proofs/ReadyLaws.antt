@@ -5,7 +5,8 @@ use mathlib.Core.Bool.{cond}
 use mathlib.Core.List.{List}
 use Prim.Native.Nat.{ℕ, zero, suc, _+_, _*_, _<_, _≤_}
 use native.Mathlib.Omega.{arith}
-use borrow.Author.Tests.{leb-false, ltb-true, eqb-true}
+use native.Mathlib.Nat.{add-zero}
+use borrow.Author.Tests.{leb-false, ltb-true, ltb-false, eqb-true, eqb-false}
 use lib.Dec.{ltb, leb, eqb, lit<}
 use lib.ListN.{length, getD}
 use Rattle.refusal.specs.Numbers.{fine, misframed}
@@ -20,7 +21,7 @@ use Rattle.frame.proofs.StepLaws.{past-field, past-refusal}
 use Rattle.block.specs.declared.Clips.{Clips}
 use Rattle.block.specs.declared.Segment.{Segment}
 use Rattle.block.specs.Segment.{mostRead, mostEdits, noClips, softBases, mappedLength}
-use Rattle.block.specs.Edits.{widthOf, Sound}
+use Rattle.block.specs.Edits.{widthOf, Sound, takenFrom}
 use Rattle.ecigar.specs.Check.{checkOf}
 use Rattle.ecigar.specs.Ecigar.{segmentEdits, ecigarText, clipsLength}
 use Rattle.ecigar.specs.declared.check.Checked.{Checked as EditsChecked}
@@ -90,6 +91,19 @@ symbols-got alphabet frame count (suc k) at v c q h =
     (λ a. by-test (leb (sizeOf alphabet) (getD frame at 0)) (λ b. absurd (let e = simp (a, b) at q in let z : _≡_ {A = ℕ} 0 1 = cc in omega arith))
     (λ b. let r = symbols-got alphabet frame count k (at + 1) v c (simp (a, b) at q) (omega (arith, leb-false (length frame) at a)) in (omega (arith, r .0), omega (arith, r .1))))
 
+-- and each of them is inside the alphabet
+symbols-in : (alphabet : ℕ) (frame : List ℕ) (count k at v : ℕ) (c : Cursor) → symbolsFrom alphabet frame count k at ≡ field.Value v c → (i : ℕ) → i < k → getD frame (at + i) 0 < sizeOf alphabet
+unfolding symbolsFrom
+symbols-in alphabet frame count zero at v c q i h = absurd (omega arith)
+symbols-in alphabet frame count (suc k) at v c q i h =
+    by-test (leb (length frame) at) (λ a. absurd (let e = simp a at q in let z : _≡_ {A = ℕ} 0 1 = cc in omega arith))
+    (λ a. by-test (leb (sizeOf alphabet) (getD frame at 0)) (λ b. absurd (let e = simp (a, b) at q in let z : _≡_ {A = ℕ} 0 1 = cc in omega arith))
+    (λ b. by i h (symbols-in alphabet frame count k (at + 1) v c (simp (a, b) at q)) (leb-false (sizeOf alphabet) (getD frame at 0) b)))
+  where
+    by : (i : ℕ) → i < suc k → ((j : ℕ) → j < k → getD frame (at + 1 + j) 0 < sizeOf alphabet) → getD frame at 0 < sizeOf alphabet → getD frame (at + i) 0 < sizeOf alphabet
+    by zero h more here = rw (add-zero at) here
+    by (suc j) h more here = let e : at + suc j ≡ at + 1 + j = omega arith in rw e (more j (omega arith))
+
 pub record GotClips (frame : List ℕ) (readLength at : ℕ) (c : Clips) (next : ℕ) : Type 0 where
   pub soft : softBases c < readLength
   pub place : next ≡ at + 8
@@ -138,22 +152,31 @@ none-fit = record { left-soft = lit< tt; left-hard = lit< tt; right-soft = lit< 
 
 -- ---- an aligned block that is accepted
 
+-- its fields before the edits: read length and clips, only I and HM having clips, and the soft-clipped bases
+pub record Sides (class alphabet : ℕ) (frame : List ℕ) (readLength : ℕ) (c : Clips) (softAt : ℕ) : Type 0 where
+  pub least : 1 ≤ readLength
+  pub most : readLength ≤ mostRead
+  pub soft : softBases c < readLength
+  pub fit : ClipsFit c
+  pub bare : class < classI → c ≡ noClips
+  pub symbols : (i : ℕ) → i < softBases c → getD frame (softAt + i) 0 < sizeOf alphabet
+
+-- and its edits, which P has none of
 pub record ReadyBlock (class alphabet : ℕ) (frame : List ℕ) (a : Aligned) : Type 0 where
-  pub least : 1 ≤ a .segment .length
-  pub most : a .segment .length ≤ mostRead
-  pub soft : softBases (a .segment .clips) < a .segment .length
-  pub fit : ClipsFit (a .segment .clips)
+  pub sides : Sides class alphabet frame (a .segment .length) (a .segment .clips) (a .segment .«soft_at»)
+  pub plain : class ≡ classP → a .segment .edits ≡ 0
   pub few : a .segment .edits ≤ mostEdits
   pub framed : a .segment .«edits_at» + a .segment .edits * widthOf class ≤ length frame
   pub sound : Sound (mappedLength (a .segment .length) (a .segment .clips)) (sizeOf alphabet) 0 (segmentEdits class alphabet frame (a .segment))
+  pub taken : a .taken ≡ takenFrom (mappedLength (a .segment .length) (a .segment .clips)) 0 (segmentEdits class alphabet frame (a .segment))
   pub text : a .text ≡ length (ecigarText class alphabet frame (a .segment))
   pub inside : a .next .at ≤ length frame
 
 -- the edits, where the block's other fields are accepted
 pub tallied-ready : (class alphabet : ℕ) (frame : List ℕ) (s : Segment) (a : Aligned) → tallied class alphabet frame s ≡ Whole a
-    → 1 ≤ s .length → s .length ≤ mostRead → softBases (s .clips) < s .length → ClipsFit (s .clips) → s .«edits_at» ≤ length frame → ReadyBlock class alphabet frame a
+    → Sides class alphabet frame (s .length) (s .clips) (s .«soft_at») → (class ≡ classP → s .edits ≡ 0) → s .«edits_at» ≤ length frame → ReadyBlock class alphabet frame a
 unfolding tallied
-tallied-ready class alphabet frame s a q one most soft fit inside =
+tallied-ready class alphabet frame s a q sides plain inside =
     by (checkOf class alphabet frame (s .«edits_at») (s .edits) (mappedLength (s .length) (s .clips))) refl q
   where
     by : (x : EditsChecked) → checkOf class alphabet frame (s .«edits_at») (s .edits) (mappedLength (s .length) (s .clips)) ≡ x → afterEdits class s x ≡ Whole a → ReadyBlock class alphabet frame a
@@ -162,17 +185,17 @@ tallied-ready class alphabet frame s a q one most soft fit inside =
         let f = checked-fine class alphabet frame (s .«edits_at») (s .edits) (mappedLength (s .length) (s .clips)) taken text e in
         let m : _≡_ {A = Aligned} a (record { segment = s; taken = taken; text = text + clipsLength (s .clips); next = record { at = behind class s } }) = cc in
         let i : a .segment ≡ s = ap (λ (x : Aligned). x .segment) m in
+        let k : a .taken ≡ taken = ap (λ (x : Aligned). x .taken) m in
         let t : a .text ≡ text + clipsLength (s .clips) = ap (λ (x : Aligned). x .text) m in
         let n : a .next .at ≡ behind class s = ap (λ (x : Aligned). x .next .at) m in
         rw i
         record {
-          least = one;
-          most = most;
-          soft = soft;
-          fit = fit;
+          sides = sides;
+          plain = plain;
           few = f .few;
           framed = f .framed inside;
           sound = f .sound;
+          taken = k ∙ f .taken;
           text = t ∙ sym (checked-length class alphabet frame s taken text e);
           inside = omega (arith, n, f .framed inside);
         }
@@ -186,36 +209,41 @@ checked-whole (field.Refused n) f a q go = absurd (let z : _≡_ {A = ℕ} 0 1 =
 
 module _ (class alphabet : ℕ) (frame : List ℕ) (bytes : (i : ℕ) → getD frame i 0 < 256) (a : Aligned) where
   edits-ready : (readLength rcomp : ℕ) (c : Clips) (softAt at : ℕ) → fromEdits class alphabet frame readLength rcomp c softAt at ≡ Whole a
-      → 1 ≤ readLength → readLength ≤ mostRead → softBases c < readLength → ClipsFit c → at ≤ length frame → ReadyBlock class alphabet frame a
+      → Sides class alphabet frame readLength c softAt → at ≤ length frame → ReadyBlock class alphabet frame a
   unfolding fromEdits
-  edits-ready readLength rcomp c softAt at q one most soft fit inside =
+  edits-ready readLength rcomp c softAt at q sides inside =
       by-test (eqb class classP)
-      (λ t. tallied-ready class alphabet frame (segmentOf readLength rcomp c softAt 0 at) a (simp t at q) one most soft fit inside)
+      (λ t. tallied-ready class alphabet frame (segmentOf readLength rcomp c softAt 0 at) a (simp t at q) sides (λ e. refl) inside)
       (λ t. checked-whole (countAt frame at) _ a (simp t at q)
-      (λ v next e r. tallied-ready class alphabet frame (segmentOf readLength rcomp c softAt v (next .at)) a r one most soft fit (count-got frame at v next e .inside)))
+      (λ v next e r. tallied-ready class alphabet frame (segmentOf readLength rcomp c softAt v (next .at)) a r sides (λ p. absurd (eqb-false class classP t p)) (count-got frame at v next e .inside)))
 
   soft-ready : (readLength rcomp : ℕ) (c : Clips) (at : ℕ) → fromSoft class alphabet frame readLength rcomp c at ≡ Whole a
-      → 1 ≤ readLength → readLength ≤ mostRead → softBases c < readLength → ClipsFit c → at ≤ length frame → ReadyBlock class alphabet frame a
+      → ((symbols : (i : ℕ) → i < softBases c → getD frame (at + i) 0 < sizeOf alphabet) → Sides class alphabet frame readLength c at) → at ≤ length frame → ReadyBlock class alphabet frame a
   unfolding fromSoft
-  soft-ready readLength rcomp c at q one most soft fit inside =
+  soft-ready readLength rcomp c at q sides inside =
       checked-whole (symbolsFrom alphabet frame (softBases c) (softBases c) at) _ a q
       (λ v next e r.
       let g = symbols-got alphabet frame (softBases c) (softBases c) at v next e inside in
-      edits-ready readLength rcomp c at (next .at) r one most soft fit (omega (arith, g .0, g .1)))
+      edits-ready readLength rcomp c at (next .at) r (sides (symbols-in alphabet frame (softBases c) (softBases c) at v next e)) (omega (arith, g .0, g .1)))
 
   clips-ready : (readLength rcomp at : ℕ) → fromClips class alphabet frame readLength rcomp at ≡ Whole a
       → 1 ≤ readLength → readLength ≤ mostRead → at ≤ length frame → ReadyBlock class alphabet frame a
   unfolding fromClips
   clips-ready readLength rcomp at q one most inside =
       by-test (ltb class classI)
-      (λ t. edits-ready readLength rcomp noClips at at (simp t at q) one most (omega arith) none-fit inside)
-      (λ t. by (clipsAt frame readLength at) refl (simp t at q))
+      (λ t.
+      edits-ready readLength rcomp noClips at at (simp t at q)
+      record { least = one; most = most; soft = omega arith; fit = none-fit; bare = λ e. refl; symbols = λ i h. absurd (omega arith) }
+      inside)
+      (λ t. by (ltb-false class classI t) (clipsAt frame readLength at) refl (simp t at q))
     where
-      by : (x : Clipped) → clipsAt frame readLength at ≡ x → afterClips class alphabet frame readLength rcomp x ≡ Whole a → ReadyBlock class alphabet frame a
-      by (clips.Refused n) e z = absurd (let y : _≡_ {A = ℕ} 0 1 = cc in omega arith)
-      by (clips.Whole c next) e z =
+      by : classI ≤ class → (x : Clipped) → clipsAt frame readLength at ≡ x → afterClips class alphabet frame readLength rcomp x ≡ Whole a → ReadyBlock class alphabet frame a
+      by clipped (clips.Refused n) e z = absurd (let y : _≡_ {A = ℕ} 0 1 = cc in omega arith)
+      by clipped (clips.Whole c next) e z =
           let g = clips-got frame readLength at c next e in
-          soft-ready readLength rcomp c (next .at) z one most (g .soft) (clips-fit frame readLength at c next bytes e) (g .inside)
+          soft-ready readLength rcomp c (next .at) z
+          (λ symbols. record { least = one; most = most; soft = g .soft; fit = clips-fit frame readLength at c next bytes e; bare = λ e. absurd (omega arith); symbols = symbols })
+          (g .inside)
 
   pub block-ready : (at : ℕ) → alignedAt class alphabet frame at ≡ Whole a → ReadyBlock class alphabet frame a
   unfolding alignedAt fromRcomp

@@ -6,3 +6,4 @@ pub mod Place
 pub mod Aligned
 pub mod Part
 pub mod Ready
+pub mod Listed

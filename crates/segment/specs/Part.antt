@@ -94,7 +94,7 @@ fixedBytes = 9
 abbrev pub mostPart : ℕ
 mostPart = fixedBytes + mostRead + mostEcigar
 
--- how many bytes list it: `part-long` shows that `partBytes` has as many
+-- how many bytes list it: `placed-taken` and `plain-taken` (proofs/PartLaws) show that `partBytes` has as many
 unfoldable pub partLength : Part → ℕ
 partLength (Aligned p) = fixedBytes + p .segment .length + p .text
 partLength (Unaligned s) = fixedBytes + s .length

@@ -1,4 +1,4 @@
--- What the check of a segment leaves for its writing: `part-ready` shows it of every part that was accepted.
+-- What the check of a segment leaves for its writing: `placed-taken` and `plain-taken` (proofs/PartLaws) show it of every part that was accepted.
 -- Assumes nothing.
 use Prim.Native.Nat.{ℕ, _+_, _*_, _≤_}
 use mathlib.Core.Path.{_≡_}
