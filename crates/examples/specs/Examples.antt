@@ -1,40 +1,19 @@
--- Document 01's small examples 1 to 12, as one table under one statement: `examples`. Each row is a record call, and what the document prints of its answer.
+-- Document 01's small examples 1 to 12, as one table under one statement, `Examples`; proofs/Examples shows it. Each row is a record call, and what the document prints of its answer.
 -- Assumes nothing.
-use Prim.Native.Nat.{ℕ, zero, suc, _+_}
+use Prim.Native.Nat.{ℕ, zero, suc, _+_, _-_}
 use Prim.Native.String.{String, len, charAt}
 use Prim.Native.Char.{code}
-use mathlib.Core.Path.{_≡_, refl}
+use mathlib.Core.Path.{_≡_}
 use mathlib.Core.List.{List, [], _∷_, _++_, map}
 use lib.ListN.{replicate, take, drop}
 use Rattle.refusal.specs.Numbers.{offsetOut}
-use Rattle.frame.specs.Line.{lineEnd, lineWithin}
-use Rattle.unit.specs.Unit.{classP, classN, classM, classI, classU, leastSegments, unitRefusal}
-use Rattle.unit.specs.State.{freshState, mostSymbols}
-use Rattle.unit.specs.Listed.{Step, refused, accepted, leastListed, words, headOf}
+use Rattle.frame.specs.Line.{lineEnd}
+use Rattle.unit.specs.Unit.{classP, classN, classM, classI, classU}
+use Rattle.unit.specs.State.{freshState, mostSymbols, tableLength}
+use Rattle.unit.specs.Listed.{Step, refused, accepted, leastListed}
 use Rattle.unit.specs.declared.Unit.{Unit}
-use Rattle.bases.specs.Bases.{pastEdit, editBases, basesFrom, refusalFrom, lettersAt, basesText}
-use Rattle.bases.specs.Reference.{isLent, baseAt, baseRefusal, matchedBases, matchRefusal}
-use Rattle.block.specs.Edits.{widthOf, editAt, editsAt, nextOffset, deletionRefusal, editRefusal, takenFrom}
-use Rattle.ecigar.specs.Check.{editsRefusal, answered, editsChecked, checkOf}
-use Rattle.ecigar.specs.Ecigar.{joinsRun, past, matches, closed, gap, mark, ending, operationsFrom, clip, segmentOperations, ecigarText}
-use Rattle.ecigar.specs.Table90.{printed}
-use Rattle.writing.specs.Decimal.{decimalF, decimal}
-use Rattle.frame.specs.Field.{bigAt, fieldAt}
-use Rattle.frame.specs.Hex.{isDigit, nib, unhex, allDigits, be}
-use Rattle.pairing.specs.Pairing.{decode, recordSteps, pairOf}
-use Rattle.pairing.specs.Table60.{same-rec, table60}
-use Rattle.pairing.specs.Take.{takeOf}
-use Rattle.plan.specs.Lent.{countsOut, indexesOut, stateRefusal, lentRefusal}
-use Rattle.plan.specs.Plan.{finished as finishedPlan, firstPart, secondPart, fromSecond, fromFirst, fromPos, fromKind, planOf}
-use Rattle.segment.specs.Aligned.{tallied as talliedSegment, fromEdits, fromSoft, fromClips, fromRcomp, alignedAt}
-use Rattle.segment.specs.Checked.{lengthAt, rcompAt, countAt}
-use Rattle.segment.specs.Clips.{clipsIn, clipsAt}
-use Rattle.segment.specs.Part.{placed, placedAt, plainAt, alignedBytes, unalignedBytes, partBytes}
-use Rattle.segment.specs.Place.{placeRefusal}
-use Rattle.segment.specs.Symbols.{symbolsFrom}
-use Rattle.segment.specs.Unaligned.{fromLength, unalignedAt}
-use Rattle.alphabet.specs.Table35.{sizeOf, letterOf, codeOfN}
-use Rattle.record.specs.Record.{stepOf, linkBytes, listedBytes}
+use Rattle.frame.specs.Hex.{unhex}
+use Rattle.record.specs.Record.{stepOf}
 
 -- ---- text
 
@@ -66,7 +45,7 @@ reference = 0 ∷ 1 ∷ 2 ∷ 3 ∷ 0 ∷ 1 ∷ 2 ∷ 3 ∷ []
 
 -- subsequence 0 has the code 0, subsequence 1 the value 5, the others nothing
 abbrev symbols : List ℕ
-symbols = replicate mostSymbols 0 ++ (5 ∷ []) ++ replicate 7167 0
+symbols = replicate mostSymbols 0 ++ (5 ∷ []) ++ replicate (tableLength - mostSymbols - 1) 0
 
 abbrev counts : List ℕ
 counts = 1 ∷ 1 ∷ 0 ∷ 0 ∷ 0 ∷ 0 ∷ 0 ∷ 0 ∷ []
@@ -132,6 +111,5 @@ table =
     ∷ []
 
 -- every row: what the definitions answer is what the document prints
-pub examples : map (λ (x : Example). x .found) table ≡ map (λ (x : Example). x .expected) table
-unfolding pastEdit editBases basesFrom refusalFrom lettersAt basesText isLent baseAt baseRefusal matchedBases matchRefusal widthOf editAt editsAt nextOffset deletionRefusal editRefusal takenFrom editsRefusal answered editsChecked checkOf joinsRun past matches closed gap mark ending operationsFrom clip segmentOperations ecigarText printed decimalF decimal bigAt fieldAt isDigit nib unhex allDigits be lineWithin decode recordSteps pairOf same-rec table60 takeOf countsOut indexesOut stateRefusal lentRefusal firstPart secondPart fromSecond fromFirst fromPos fromKind planOf linkBytes listedBytes stepOf fromEdits fromSoft fromClips fromRcomp alignedAt lengthAt rcompAt countAt clipsIn clipsAt placed placedAt plainAt alignedBytes unalignedBytes partBytes placeRefusal symbolsFrom fromLength unalignedAt words headOf sizeOf letterOf codeOfN leastSegments unitRefusal finishedPlan talliedSegment
-examples = refl
+abbrev pub Examples : Type 0
+Examples = map (λ (x : Example). x .found) table ≡ map (λ (x : Example). x .expected) table
