@@ -8,7 +8,7 @@ use Rattle.bases.specs.Bases.{pastEdit, editBases, basesFrom, refusalFrom, lett
 use Rattle.bases.specs.Reference.{isLent, baseAt, baseRefusal, matchedBases, matchRefusal}
 use Rattle.block.specs.Edits.{widthOf, editAt, editsAt, nextOffset, deletionRefusal, editRefusal, takenFrom}
 use Rattle.ecigar.specs.Check.{editsRefusal, answered, editsChecked, checkOf}
-use Rattle.ecigar.specs.Ecigar.{joinsRun, past, matches, closed, gap, mark, ending, operationsFrom, clip, segmentOperations, ecigarText}
+use Rattle.ecigar.specs.Ecigar.{joinsRun, past, matches, openRun, gap, mark, ending, operationsFrom, clip, segmentOperations, ecigarText}
 use Rattle.ecigar.specs.Table90.{printed}
 use Rattle.writing.specs.Decimal.{decimalF, decimal}
 use Rattle.frame.specs.Field.{bigAt, fieldAt}
@@ -30,5 +30,5 @@ use Rattle.record.specs.Record.{stepOf, linkBytes, listedBytes}
 use Rattle.examples.specs.Examples.{Examples}
 
 pub examples : Examples
-unfolding pastEdit editBases basesFrom refusalFrom lettersAt basesText isLent baseAt baseRefusal matchedBases matchRefusal widthOf editAt editsAt nextOffset deletionRefusal editRefusal takenFrom editsRefusal answered editsChecked checkOf joinsRun past matches closed gap mark ending operationsFrom clip segmentOperations ecigarText printed decimalF decimal bigAt fieldAt isDigit nib unhex allDigits be lineWithin decode recordSteps pairOf same-rec table60 takeOf countsOut indexesOut stateRefusal lentRefusal firstPart secondPart fromSecond fromFirst fromPos fromKind planOf linkBytes listedBytes stepOf fromEdits fromSoft fromClips fromRcomp alignedAt lengthAt rcompAt countAt clipsIn clipsAt placed placedAt plainAt alignedBytes unalignedBytes partBytes placeRefusal symbolsFrom fromLength unalignedAt words headOf sizeOf letterOf codeOfN leastSegments unitRefusal finishedPlan talliedSegment
+unfolding pastEdit editBases basesFrom refusalFrom lettersAt basesText isLent baseAt baseRefusal matchedBases matchRefusal widthOf editAt editsAt nextOffset deletionRefusal editRefusal takenFrom editsRefusal answered editsChecked checkOf joinsRun past matches openRun gap mark ending operationsFrom clip segmentOperations ecigarText printed decimalF decimal bigAt fieldAt isDigit nib unhex allDigits be lineWithin decode recordSteps pairOf same-rec table60 takeOf countsOut indexesOut stateRefusal lentRefusal firstPart secondPart fromSecond fromFirst fromPos fromKind planOf linkBytes listedBytes stepOf fromEdits fromSoft fromClips fromRcomp alignedAt lengthAt rcompAt countAt clipsIn clipsAt placed placedAt plainAt alignedBytes unalignedBytes partBytes placeRefusal symbolsFrom fromLength unalignedAt words headOf sizeOf letterOf codeOfN leastSegments unitRefusal finishedPlan talliedSegment
 examples = refl

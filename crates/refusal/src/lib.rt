@@ -1,5 +1,8 @@
 // Document 01's refusal numbers, in the order of its table.
 
+// Nothing is refused.
+pub const FINE: u32 = 0;
+
 // Other digits, odd count, too long a line, or a last line without 0A.
 pub const MALFORMED: u32 = 1;
 
