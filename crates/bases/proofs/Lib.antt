@@ -2,4 +2,3 @@ pub mod ReferenceLaws
 pub mod BasesLaws
 pub mod AlignmentLaws
 pub mod ReadLaws
-pub mod Examples

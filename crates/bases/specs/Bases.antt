@@ -3,36 +3,38 @@
 use Prim.Native.Nat.{ℕ, zero, suc, _+_, _-_}
 use mathlib.Core.Bool.{cond}
 use mathlib.Core.List.{List, [], _∷_, _++_}
-use lib.Dec.{leb, eqb}
+use lib.Dec.{eqb}
 use lib.ListN.{getD}
-use Rattle.refusal.specs.Numbers.{fine, symbolOut}
-use Rattle.alphabet.specs.Table35.{sizeOf, letterOf}
+use Rattle.refusal.specs.Numbers.{firstOf}
+use Rattle.alphabet.specs.Table35.{letterOf}
 use Rattle.block.specs.declared.edit.Edit.{Edit}
 use Rattle.block.specs.declared.Segment.{Segment}
 use Rattle.block.specs.Edits.{insertion, deletion, editsAt}
 use Rattle.block.specs.Segment.{mappedLength}
 use Rattle.bases.specs.declared.places.Places.{Places}
-use Rattle.bases.specs.Reference.{firstOf, matchedBases, matchRefusal}
+unfoldable pub use Rattle.bases.specs.Helpers.{symbolsRefusal, farthest}
+use Rattle.bases.specs.Reference.{matchedBases, matchRefusal}
 
 -- pointer R: the current position within the reference
 abbrev pub R : Places → ℕ
 R p = p .reference .0
 
--- pointer r: the current position within the read, from its first mapped base on
+-- pointer r: the current position within the mapped bases. Table 90's row (n) moves r over the left soft clip first: base r here is base left soft + r of the read
 abbrev pub r : Places → ℕ
 r p = p .read .0
 
-abbrev pub pointers : ℕ → ℕ → Places
+-- both pointers
+abbrev pub pointers : (atReference atRead : ℕ) → Places
 pointers atReference atRead = record { reference = record { 0 = atReference }; read = record { 0 = atRead } }
 
--- at the beginning R is the segment's position, and r is 0
-abbrev pub beginning : ℕ → Places
+-- 10.6.1 sets both to 0, "the 0 of the reference being the position of the match": here R counts from position 0 of the sequence, and begins at the segment's
+abbrev pub beginning : (position : ℕ) → Places
 beginning position = pointers position 0
 
 -- ---- Table 90, row by row
 
 -- n= : matching bases up to a place of the read; both pointers move by as many
-abbrev pub pastMatch : ℕ → Places → Places
+abbrev pub pastMatch : (to : ℕ) → Places → Places
 pastMatch to p = pointers (R p + (to - r p)) to
 
 -- a letter: a substitution moves both pointers by 1
@@ -55,14 +57,14 @@ pastEdit e p =
     (cond (eqb (e .kind) deletion) (pastDeletion (pastMatch (e .offset) p))
     (pastSubstitution (pastMatch (e .offset) p)))
 
--- a substitution and an insertion bring the letter of their symbol, a deletion none
-unfoldable pub editBases : ℕ → Edit → List ℕ
+-- a substitution and an insertion bring the letter of their symbol, a deletion none (Tables 40 and 41)
+unfoldable pub editBases : (alphabet : ℕ) → Edit → List ℕ
 editBases alphabet e = cond (eqb (e .kind) deletion) [] (letterOf alphabet (e .symbol) ∷ [])
 
 -- ---- the edits of a segment, one after the other, and the match behind the last
 
 -- the mapped bases, from both pointers on
-unfoldable pub basesFrom : ℕ → List ℕ → ℕ → ℕ → Places → List Edit → List ℕ
+unfoldable pub basesFrom : (alphabet : ℕ) (reference : List ℕ) (first mapped : ℕ) → Places → List Edit → List ℕ
 basesFrom alphabet reference first mapped p [] = matchedBases alphabet reference first (R p) (mapped - r p)
 basesFrom alphabet reference first mapped p (e ∷ es) =
     matchedBases alphabet reference first (R p) (e .offset - r p)
@@ -70,47 +72,37 @@ basesFrom alphabet reference first mapped p (e ∷ es) =
     ++ basesFrom alphabet reference first mapped (pastEdit e p) es
 
 -- refusal 10 of the reference: a lent byte outside the alphabet that stands under a match
-unfoldable pub refusalFrom : ℕ → List ℕ → ℕ → ℕ → Places → List Edit → ℕ
+unfoldable pub refusalFrom : (alphabet : ℕ) (reference : List ℕ) (first mapped : ℕ) → Places → List Edit → ℕ
 refusalFrom alphabet reference first mapped p [] = matchRefusal alphabet reference first (R p) (mapped - r p)
 refusalFrom alphabet reference first mapped p (e ∷ es) =
     firstOf (matchRefusal alphabet reference first (R p) (e .offset - r p))
     (refusalFrom alphabet reference first mapped (pastEdit e p) es)
 
 -- both pointers behind the last base
-unfoldable pub pastAll : ℕ → Places → List Edit → Places
+unfoldable pub pastAll : (mapped : ℕ) → Places → List Edit → Places
 pastAll mapped p [] = pastMatch mapped p
 pastAll mapped p (e ∷ es) = pastAll mapped (pastEdit e p) es
 
 -- ---- the whole read
 
 -- the letters of n symbols, from a place on
-unfoldable pub lettersAt : ℕ → List ℕ → ℕ → ℕ → List ℕ
+unfoldable pub lettersAt : (alphabet : ℕ) (symbols : List ℕ) (at n : ℕ) → List ℕ
 lettersAt alphabet symbols at zero = []
 lettersAt alphabet symbols at (suc n) = letterOf alphabet (getD symbols at 0) ∷ lettersAt alphabet symbols (at + 1) n
 
--- refusal 10 of n symbols, from a place on
-unfoldable pub symbolsRefusal : ℕ → List ℕ → ℕ → ℕ → ℕ
-symbolsRefusal alphabet symbols at zero = fine
-symbolsRefusal alphabet symbols at (suc n) =
-    cond (leb (sizeOf alphabet) (getD symbols at 0)) symbolOut (symbolsRefusal alphabet symbols (at + 1) n)
-
 -- refusal 10 of the reference under a segment's edits, which stand in the frame from a place on
-abbrev pub referenceRefusal : ℕ → ℕ → List ℕ → List ℕ → ℕ → ℕ → ℕ → ℕ → ℕ → ℕ
+abbrev pub referenceRefusal : (class alphabet : ℕ) (frame reference : List ℕ) (first position mapped count place : ℕ) → ℕ
 referenceRefusal class alphabet frame reference first position mapped count place =
     refusalFrom alphabet reference first mapped (beginning position) (editsAt class alphabet frame count place)
 
 -- the mapped bases of a segment
-abbrev pub mappedBases : ℕ → ℕ → List ℕ → List ℕ → ℕ → ℕ → ℕ → ℕ → ℕ → List ℕ
+abbrev pub mappedBases : (class alphabet : ℕ) (frame reference : List ℕ) (first position mapped count place : ℕ) → List ℕ
 mappedBases class alphabet frame reference first position mapped count place =
     basesFrom alphabet reference first mapped (beginning position) (editsAt class alphabet frame count place)
 
--- the read: soft-clipped bases on the left, mapped bases, soft-clipped bases on the right
-unfoldable pub basesText : ℕ → ℕ → List ℕ → List ℕ → ℕ → ℕ → Segment → List ℕ
+-- the read on the forward strand (Table 43: softClips[0], the mapped bases, softClips[1]); rcomp is passed through and turns nothing
+unfoldable pub basesText : (class alphabet : ℕ) (frame reference : List ℕ) (first position : ℕ) → Segment → List ℕ
 basesText class alphabet frame reference first position s =
     lettersAt alphabet frame (s .«soft_at») (s .clips .«left_soft»)
     ++ mappedBases class alphabet frame reference first position (mappedLength (s .length) (s .clips)) (s .edits) (s .«edits_at»)
     ++ lettersAt alphabet frame (s .«soft_at» + s .clips .«left_soft») (s .clips .«right_soft»)
-
--- no pointer R comes so far: it starts at 32 bits, and at most 2 ^ 32 edits move it by at most 2 ^ 16 each
-abbrev pub farthest : ℕ
-farthest = 1000000000000000

@@ -37,11 +37,11 @@ fn lent_before(lent: usize, first: u32, position: u64) -> usize
 }
 
 // Refusal 10 of the lent bases from `start` to `end`.
-fn check_lent(reference: &[u8], letters: u32, start: usize, end: usize) -> u32
+fn check_lent(reference: &[u8], alphabet: u32, start: usize, end: usize) -> u32
     requires { ⌜ end ≤ length (now reference) ⌝ }
-    ensures { λ n. ⌜ n ≡ symbolsRefusal letters (now (reference .entry)) start (end - start) ⌝ }
+    ensures { λ n. ⌜ n ≡ symbolsRefusal alphabet (now (reference .entry)) start (end - start) ⌝ }
 {
-    let size = alphabet::size(letters);
+    let size = alphabet::size(alphabet);
     let mut i = start;
     while i < end {
         if size <= wide(reference[i]) {
@@ -49,27 +49,27 @@ fn check_lent(reference: &[u8], letters: u32, start: usize, end: usize) -> u32
         }
         i += 1;
     }
-    0
+    refusal::FINE
 }
 
 // Refusal 10 of a match from both pointers up to a place of the read.
-pub(crate) fn check_match(reference: &[u8], first: u32, letters: u32, p: Places, to: u32) -> u32
+pub(crate) fn check_match(reference: &[u8], first: u32, alphabet: u32, p: Places, to: u32) -> u32
     requires { ⌜ R p ≤ farthest ⌝ }
-    ensures { λ n. ⌜ n ≡ matchRefusal letters (now (reference .entry)) first (R p) (to - r p) ⌝ }
+    ensures { λ n. ⌜ n ≡ matchRefusal alphabet (now (reference .entry)) first (R p) (to - r p) ⌝ }
 {
     let n = p.until(to);
     let at = p.reference;
     let start = lent_before(reference.len(), first, at.0);
     let end = lent_before(reference.len(), first, at.0 + n);
-    check_lent(reference, letters, start, end)
+    check_lent(reference, alphabet, start, end)
 }
 
 // The letter N, as many times.
-fn put_padding(out: &mut [u8], at: usize, letters: u32, count: u64) -> usize
+fn put_padding(out: &mut [u8], at: usize, alphabet: u32, count: u64) -> usize
     requires { ⌜ at + 2 * count ≤ length (now out) ⌝ }
     ensures { λ a. ⌜ Laid (now (out .entry)) (now (out .exit)) at a (replicate count letterN) ⌝ }
 {
-    let n = alphabet::letter(letters, alphabet::index_of_n(letters));
+    let n = alphabet::letter(alphabet, alphabet::index_of_n(alphabet));
     let mut next = at;
     let mut left = count;
     while 0 < left {
@@ -110,15 +110,15 @@ fn put_lent(
     out: &mut [u8],
     at: usize,
     reference: &[u8],
-    letters: u32,
+    alphabet: u32,
     start: usize,
     end: usize,
 ) -> usize
     requires { ⌜ (start ≤ end) × (end ≤ length (now reference)) ⌝ }
     requires { ⌜ at + 2 * (end - start) ≤ length (now out) ⌝ }
-    ensures { λ a. ⌜ Laid (now (out .entry)) (now (out .exit)) at a (lettersAt letters (now (reference .entry)) start (end - start)) ⌝ }
+    ensures { λ a. ⌜ Laid (now (out .entry)) (now (out .exit)) at a (lettersAt alphabet (now (reference .entry)) start (end - start)) ⌝ }
 {
-    let table = alphabet::digits(letters);
+    let table = alphabet::digits(alphabet);
     let mut next = at;
     let mut i = start;
     while i < end {
@@ -134,13 +134,13 @@ pub(crate) fn put_matched(
     at: usize,
     reference: &[u8],
     first: u32,
-    letters: u32,
+    alphabet: u32,
     p: Places,
     to: u32,
 ) -> usize
     requires { ⌜ R p ≤ farthest ⌝ }
     requires { ⌜ at + 2 * (to - r p) ≤ length (now out) ⌝ }
-    ensures { λ a. ⌜ Laid (now (out .entry)) (now (out .exit)) at a (matchedBases letters (now (reference .entry)) first (R p) (to - r p)) ⌝ }
+    ensures { λ a. ⌜ Laid (now (out .entry)) (now (out .exit)) at a (matchedBases alphabet (now (reference .entry)) first (R p) (to - r p)) ⌝ }
 {
     let n = p.until(to);
     if n == 0 {
@@ -151,7 +151,7 @@ pub(crate) fn put_matched(
     let start = lent_before(reference.len(), first, from.0);
     let end = lent_before(reference.len(), first, from.0 + n);
     let behind = n - before - (end - start) as u64;
-    let lent_at = put_padding(out, at, letters, before);
-    let behind_at = put_lent(out, lent_at, reference, letters, start, end);
-    put_padding(out, behind_at, letters, behind)
+    let lent_at = put_padding(out, at, alphabet, before);
+    let behind_at = put_lent(out, lent_at, reference, alphabet, start, end);
+    put_padding(out, behind_at, alphabet, behind)
 }

@@ -34,7 +34,7 @@ fn inside(place: usize, bytes: usize) -> usize
 pub fn check_reference(
     reference: &[u8],
     first: u32,
-    letters: u32,
+    alphabet: u32,
     position: u32,
     line: &[u8],
     class: u32,
@@ -42,7 +42,7 @@ pub fn check_reference(
     count: u32,
     mapped: u32,
 ) -> u32
-    ensures { λ n. ⌜ n ≡ referenceRefusal class letters (unhex (now (line .entry))) (now (reference .entry)) first position mapped count place ⌝ }
+    ensures { λ n. ⌜ n ≡ referenceRefusal class alphabet (unhex (now (line .entry))) (now (reference .entry)) first position mapped count place ⌝ }
 {
     let step = width(class);
     let bytes = line.len() / 2;
@@ -50,16 +50,16 @@ pub fn check_reference(
     let mut p = Places::beginning(position);
     let mut left = count;
     while 0 < left {
-        let e = edit_at(line, class, letters, at);
-        let no = check_match(reference, first, letters, p, e.offset as u32);
-        if no != 0 {
+        let e = edit_at(line, class, alphabet, at);
+        let no = check_match(reference, first, alphabet, p, e.offset as u32);
+        if no != refusal::FINE {
             return no;
         }
         p = p.past_edit(e);
         at += step;
         left -= 1;
     }
-    check_match(reference, first, letters, p, mapped)
+    check_match(reference, first, alphabet, p, mapped)
 }
 
 // The match up to an edit, and the edit's own letter.
@@ -68,17 +68,17 @@ fn put_edit(
     at: usize,
     reference: &[u8],
     first: u32,
-    letters: u32,
+    alphabet: u32,
     table: &[u8; alphabet::DIGITS],
     p: Places,
     e: Edit,
 ) -> usize
-    requires { ⌜ now table ≡ digitsOf letters ⌝ }
+    requires { ⌜ now table ≡ digitsOf alphabet ⌝ }
     requires { ⌜ R p ≤ farthest ⌝ }
-    requires { ⌜ at + 2 * length (matchedBases letters (now reference) first (R p) (e .offset - r p) ++ editBases letters e) ≤ length (now out) ⌝ }
-    ensures { λ a. ⌜ Laid (now (out .entry)) (now (out .exit)) at a (matchedBases letters (now (reference .entry)) first (R p) (e .offset - r p) ++ editBases letters e) ⌝ }
+    requires { ⌜ at + 2 * length (matchedBases alphabet (now reference) first (R p) (e .offset - r p) ++ editBases alphabet e) ≤ length (now out) ⌝ }
+    ensures { λ a. ⌜ Laid (now (out .entry)) (now (out .exit)) at a (matchedBases alphabet (now (reference .entry)) first (R p) (e .offset - r p) ++ editBases alphabet e) ⌝ }
 {
-    let next = put_matched(out, at, reference, first, letters, p, e.offset as u32);
+    let next = put_matched(out, at, reference, first, alphabet, p, e.offset as u32);
     if e.kind == Edit::DELETION {
         return next;
     }
@@ -91,7 +91,7 @@ fn put_mapped(
     at: usize,
     reference: &[u8],
     first: u32,
-    letters: u32,
+    alphabet: u32,
     position: u32,
     line: &[u8],
     class: u32,
@@ -99,10 +99,10 @@ fn put_mapped(
     count: u32,
     mapped: u32,
 ) -> usize
-    requires { ⌜ at + 2 * length (mappedBases class letters (unhex (now line)) (now reference) first position mapped count place) ≤ length (now out) ⌝ }
-    ensures { λ a. ⌜ Laid (now (out .entry)) (now (out .exit)) at a (mappedBases class letters (unhex (now (line .entry))) (now (reference .entry)) first position mapped count place) ⌝ }
+    requires { ⌜ at + 2 * length (mappedBases class alphabet (unhex (now line)) (now reference) first position mapped count place) ≤ length (now out) ⌝ }
+    ensures { λ a. ⌜ Laid (now (out .entry)) (now (out .exit)) at a (mappedBases class alphabet (unhex (now (line .entry))) (now (reference .entry)) first position mapped count place) ⌝ }
 {
-    let table = alphabet::digits(letters);
+    let table = alphabet::digits(alphabet);
     let step = width(class);
     let bytes = line.len() / 2;
     let mut here = inside(place, bytes);
@@ -110,32 +110,32 @@ fn put_mapped(
     let mut next = at;
     let mut left = count;
     while 0 < left {
-        let e = edit_at(line, class, letters, here);
-        next = put_edit(out, next, reference, first, letters, &table, p, e);
+        let e = edit_at(line, class, alphabet, here);
+        next = put_edit(out, next, reference, first, alphabet, &table, p, e);
         p = p.past_edit(e);
         here += step;
         left -= 1;
     }
-    put_matched(out, next, reference, first, letters, p, mapped)
+    put_matched(out, next, reference, first, alphabet, p, mapped)
 }
 
-// Soft-clipped bases: the letters of the frame's bytes from `start` to `end`. Most reads have none, and take no table for it.
-pub fn put_clipped(
+// The letters of the frame's bytes from `start` to `end`: soft-clipped bases, and the whole of an unaligned read. Most aligned reads have no clips, and take no table for it.
+pub fn put_letters(
     out: &mut [u8],
     at: usize,
     line: &[u8],
-    letters: u32,
+    alphabet: u32,
     start: usize,
     end: usize,
 ) -> usize
     requires { ⌜ start ≤ end ⌝ }
     requires { ⌜ at + 2 * (end - start) ≤ length (now out) ⌝ }
-    ensures { λ a. ⌜ Laid (now (out .entry)) (now (out .exit)) at a (lettersAt letters (unhex (now (line .entry))) start (end - start)) ⌝ }
+    ensures { λ a. ⌜ Laid (now (out .entry)) (now (out .exit)) at a (lettersAt alphabet (unhex (now (line .entry))) start (end - start)) ⌝ }
 {
     if start == end {
         return at;
     }
-    let table = alphabet::digits(letters);
+    let table = alphabet::digits(alphabet);
     let mut next = at;
     let mut i = start;
     while i < end {
@@ -151,14 +151,14 @@ pub fn write(
     at: usize,
     reference: &[u8],
     first: u32,
-    letters: u32,
+    alphabet: u32,
     position: u32,
     line: &[u8],
     class: u32,
     segment: Segment,
 ) -> usize
-    requires { ⌜ at + 2 * length (basesText class letters (unhex (now line)) (now reference) first position segment) ≤ length (now out) ⌝ }
-    ensures { λ a. ⌜ Laid (now (out .entry)) (now (out .exit)) at a (basesText class letters (unhex (now (line .entry))) (now (reference .entry)) first position segment) ⌝ }
+    requires { ⌜ at + 2 * length (basesText class alphabet (unhex (now line)) (now reference) first position segment) ≤ length (now out) ⌝ }
+    ensures { λ a. ⌜ Laid (now (out .entry)) (now (out .exit)) at a (basesText class alphabet (unhex (now (line .entry))) (now (reference .entry)) first position segment) ⌝ }
 {
     let clips = segment.clips;
     let mapped = mapped_length(segment.length, clips);
@@ -166,13 +166,13 @@ pub fn write(
     let left = inside(segment.soft_at, bytes);
     let right = left + clips.left_soft as usize;
     let end = right + clips.right_soft as usize;
-    let first_mapped = put_clipped(out, at, line, letters, left, right);
+    let first_mapped = put_letters(out, at, line, alphabet, left, right);
     let behind = put_mapped(
         out,
         first_mapped,
         reference,
         first,
-        letters,
+        alphabet,
         position,
         line,
         class,
@@ -180,5 +180,5 @@ pub fn write(
         segment.edits,
         mapped,
     );
-    put_clipped(out, behind, line, letters, right, end)
+    put_letters(out, behind, line, alphabet, right, end)
 }

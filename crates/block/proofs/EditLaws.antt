@@ -11,12 +11,19 @@ use borrow.Author.Tests.{ltb-true, ltb-false, leb-true, leb-false, eqb-true, eqb
 use lib.Dec.{ltb, leb, eqb}
 use lib.ListN.{length, getD, List·getD-eq-default}
 use Rattle.refusal.specs.Numbers.{fine}
+use Rattle.frame.specs.Field.{bigAt}
 use Rattle.frame.proofs.HexLaws.{by-test, length-unhex}
 use Rattle.unit.specs.Unit.{classN, classM}
 use Rattle.frame.specs.Hex.{unhex}
 use Rattle.alphabet.specs.Table35.{codeOfN}
 use Rattle.block.specs.Edits.{substitution, deletion, edit, widthOf, editAt, editsAt, nextOffset, deletionRefusal, editRefusal, Sound}
 use Rattle.block.specs.declared.edit.Edit.{Edit}
+
+-- ---- an offset is its two bytes
+
+offset-bytes : (s : List ℕ) (at : ℕ) → bigAt 2 s at ≡ getD s at 0 * 256 + getD s (at + 1) 0
+unfolding bigAt
+offset-bytes s at = rw (add-zero at) (omega arith)
 
 -- ---- past the frame's end every byte reads as 0, so every place there reads as the end does
 
@@ -31,22 +38,22 @@ edit-inside class alphabet l at {here} e =
     let n = length-unhex l in
     let h : length (unhex l) ≤ at = omega (arith, ltb-false at (length l / 2) t) in
     let z : getD (unhex l) at 0 ≡ getD (unhex l) (length (unhex l)) 0 = rw (add-zero at, add-zero (length (unhex l))) at (at-end (unhex l) at 0 h) in
-    rw (e, t, ← n, z, at-end (unhex l) at 1 h, at-end (unhex l) at 2 h, at-end (unhex l) at 3 h))
+    rw (e, t, ← n, offset-bytes (unhex l) at, offset-bytes (unhex l) (length (unhex l)), z, at-end (unhex l) at 1 h, at-end (unhex l) at 2 h, at-end (unhex l) at 3 h))
 
 -- ---- an edit from its bytes, in each class
 
 module _ (alphabet : ℕ) (s : List ℕ) (at a b : ℕ) (high : a ≡ getD s at 0) (low : b ≡ getD s (at + 1) 0) where
   pub edit-n : (class y : ℕ) → class ≡ classN → y ≡ codeOfN alphabet → edit (a * 256 + b) substitution y ≡ editAt class alphabet s at
   unfolding editAt
-  edit-n class y h e = rw (eq-eqb _ _ h, ← high, ← low, e)
+  edit-n class y h e = rw (eq-eqb _ _ h, offset-bytes s at, ← high, ← low, e)
 
   pub edit-m : (class y : ℕ) → (class ≡ classN → ⊥) → class ≡ classM → y ≡ getD s (at + 2) 0 → edit (a * 256 + b) substitution y ≡ editAt class alphabet s at
   unfolding editAt
-  edit-m class y g h e = rw (ne-eqb _ _ g, eq-eqb _ _ h, ← high, ← low, e)
+  edit-m class y g h e = rw (ne-eqb _ _ g, eq-eqb _ _ h, offset-bytes s at, ← high, ← low, e)
 
   pub edit-i : (class k y : ℕ) → (class ≡ classN → ⊥) → (class ≡ classM → ⊥) → k ≡ getD s (at + 2) 0 → y ≡ getD s (at + 3) 0 → edit (a * 256 + b) k y ≡ editAt class alphabet s at
   unfolding editAt
-  edit-i class k y g h e f = rw (ne-eqb _ _ g, ne-eqb _ _ h, ← high, ← low, e, f)
+  edit-i class k y g h e f = rw (ne-eqb _ _ g, ne-eqb _ _ h, offset-bytes s at, ← high, ← low, e, f)
 
 pub code-n-lt : {y : ℕ} (alphabet : ℕ) → y ≡ codeOfN alphabet → y < 256
 unfolding codeOfN
@@ -131,10 +138,6 @@ unfolding Sound
 sound-tail mapped symbols next e es p = p .1
 
 -- ---- how wide an edit is
-
-pub width-least : (class : ℕ) → 2 ≤ widthOf class
-unfolding widthOf
-width-least class = by-test (eqb class classN) (λ t. simp t (omega arith)) (λ t. by-test (eqb class classM) (λ u. simp (t, u) (omega arith)) (λ u. simp (t, u) (omega arith)))
 
 pub width-most : (class : ℕ) → widthOf class ≤ 4
 unfolding widthOf

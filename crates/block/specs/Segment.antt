@@ -24,5 +24,5 @@ abbrev pub softBases : Clips → ℕ
 softBases c = c .«left_soft» + c .«right_soft»
 
 -- mappedLength of Table 92: the read length less both soft clips
-abbrev pub mappedLength : ℕ → Clips → ℕ
+abbrev pub mappedLength : (readLength : ℕ) → Clips → ℕ
 mappedLength readLength c = readLength - softBases c

@@ -53,8 +53,8 @@ fn inside(at: usize, bytes: usize) -> usize
 }
 
 // The edit that stands at a place of the frame. In class N it has no symbol of its own: the letter is N.
-pub fn edit_at(line: &[u8], class: u32, letters: u32, place: usize) -> Edit
-    ensures { λ r. ⌜ r ≡ editAt class letters (unhex (now (line .entry))) place ⌝ }
+pub fn edit_at(line: &[u8], class: u32, alphabet: u32, place: usize) -> Edit
+    ensures { λ r. ⌜ r ≡ editAt class alphabet (unhex (now (line .entry))) place ⌝ }
 {
     let at = inside(place, line.len() / 2);
     let offset = wide(byte_at(line, at)) * 256 + wide(byte_at(line, at + 1));
@@ -62,7 +62,7 @@ pub fn edit_at(line: &[u8], class: u32, letters: u32, place: usize) -> Edit
         return Edit {
             offset,
             kind: Edit::SUBSTITUTION,
-            symbol: alphabet::index_of_n(letters) as u8,
+            symbol: alphabet::index_of_n(alphabet) as u8,
         };
     }
     let third = byte_at(line, at + 2);
@@ -110,7 +110,7 @@ pub fn refusal_of(e: Edit, next: u32, mapped: u32, symbols: u32) -> u32
     if mapped <= offset {
         return refusal::OFFSET_OUT;
     }
-    0
+    refusal::FINE
 }
 
 // The same of a deletion, which brings no symbol and may stand behind the last base.
@@ -126,5 +126,5 @@ fn deletion_refusal(symbol: u8, offset: u32, next: u32, mapped: u32) -> u32
     if mapped < offset {
         return refusal::OFFSET_OUT;
     }
-    0
+    refusal::FINE
 }

@@ -14,7 +14,7 @@ use Rattle.refusal.specs.Numbers.{fine, misframed}
 use Rattle.frame.specs.Hex.{unhex}
 use Rattle.frame.proofs.HexLaws.{by-test, length-unhex}
 use Rattle.alphabet.specs.Table35.{sizeOf}
-use Rattle.block.specs.Edits.{substitution, insertion, widthOf, editAt, editsAt, nextOffset, editRefusal, Sound, takenFrom}
+use Rattle.block.specs.Edits.{substitution, insertion, widthOf, editAt, editsAt, nextOffset, editRefusal, Sound, takenFrom, takenBy}
 use Rattle.block.specs.Segment.{mostRead, mostEdits}
 use Rattle.block.specs.declared.edit.Edit.{Edit}
 use Rattle.block.proofs.EditLaws.{Accepted, edits-on, edits-none, next-least}
@@ -25,7 +25,7 @@ use Rattle.ecigar.specs.declared.check.Checked.the-variants.{Fine, Refus
 use Rattle.ecigar.specs.Table90.{printed}
 use Rattle.ecigar.specs.Ecigar.{past, gap, mark, operationsFrom, ecigarOf}
 use Rattle.ecigar.specs.Check.{endsWithin, editsRefusal, answered, editsChecked, checkOf}
-use Rattle.ecigar.specs.Tally.{startTally, takenBy, textBy, tallied, finished}
+use Rattle.ecigar.specs.Tally.{startTally, textBy, tallied, finished}
 use Rattle.ecigar.proofs.PrintLaws.{length-printed}
 use Rattle.ecigar.proofs.WalkLaws.{Open, length-mark, text-on, text-end, past-next, past-run, past-open, edit-most}
 
@@ -43,7 +43,6 @@ ends-room l at n h = rw length-unhex at (ltb-false (length (unhex l)) (at + n) (
 -- ---- one edit
 
 pub takenBy-most : (next : ℕ) (e : Edit) → next ≤ e .offset → takenBy next e + next ≤ e .offset + 1
-unfolding takenBy
 takenBy-most next e h = by-test (eqb (e .kind) insertion) (λ k. simp k (omega arith)) (λ k. simp k (omega arith))
 
 -- ---- a turn of the loop: what is left, from here, comes to what the whole comes to
@@ -89,7 +88,7 @@ module _ (class alphabet : ℕ) (frame : List ℕ) (mapped k at step symbols : �
 
     pub check-on : (r : Tally) → editRefusal mapped symbols (t .walk .next) e ≡ 0 → r ≡ tallied t e
         → checkedFrom class alphabet frame mapped k at t ≡ checkedFrom class alphabet frame mapped (k - 1) (at + step) r
-    unfolding checkedFrom takenFrom tallied takenBy textBy past
+    unfolding checkedFrom takenFrom tallied textBy past
     check-on r z q =
         let es = editsAt class alphabet frame (k - 1) (at + step) in
         let list : editsAt class alphabet frame k at ≡ e ∷ es = edits-on class alphabet frame k at e it more ∙ rw wide in

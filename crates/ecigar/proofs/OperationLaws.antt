@@ -19,8 +19,8 @@ use Rattle.block.specs.declared.Clips.{Clips}
 use Rattle.block.specs.declared.Segment.{Segment}
 use Rattle.block.proofs.EditLaws.{Accepted, accepted, sound-head, sound-tail, next-deletion, next-other, length-edits}
 use Rattle.ecigar.specs.declared.walk.Walk.{Walk}
-use Rattle.ecigar.specs.Table90.{Operation, matched, letter, inserted, deleted, roundClose, squareClose, printed, movesRead, movesReference, total, AllPositive}
-use Rattle.ecigar.specs.Ecigar.{setOut, joinsRun, past, matches, closed, gap, mark, ending, operationsFrom, operationsOf, ecigarOf, clip, leftClip, rightClip, segmentEdits, segmentOperations, ecigarText}
+use Rattle.ecigar.specs.Table90.{Operation, matched, substituted, inserted, deleted, roundClose, squareClose, printed, movesRead, movesReference, total, AllPositive}
+use Rattle.ecigar.specs.Ecigar.{setOut, joinsRun, past, matches, openRun, gap, mark, ending, operationsFrom, operationsOf, ecigarOf, clip, leftClip, rightClip, segmentEdits, segmentOperations, ecigarText}
 use Rattle.ecigar.proofs.PrintLaws.{digits-short, length-counted, length-printed}
 use Rattle.ecigar.proofs.WalkLaws.{Open, length-mark, ending-both, text-on, text-end, past-next, past-kind, past-open, past-joined, past-apart, joins-true, matches-most, closed-most, edit-most, clip-soft, clip-hard, clip-none}
 use Rattle.ecigar.proofs.TextLaws.{length-text}
@@ -36,8 +36,8 @@ positive-matches : (n : ℕ) → AllPositive (matches n)
 unfolding AllPositive matches
 positive-matches n = by-test (eqb n 0) (λ h. rw h tt) (λ h. let z = eqb-false n 0 h in rw h (omega arith, tt))
 
-positive-closed : (w : Walk) → Open w → AllPositive (closed w)
-unfolding AllPositive closed
+positive-closed : (w : Walk) → Open w → AllPositive (openRun w)
+unfolding AllPositive openRun
 positive-closed w o =
     by-test (eqb (w .kind) insertion)
     (λ h. let k = eqb-true (w .kind) insertion h in rw h (⊎-elim (λ z. absurd (omega arith)) (λ z. z) o, tt))
@@ -49,12 +49,12 @@ positive-edit : (alphabet : ℕ) (w : Walk) (e : Edit) → Open w → AllPositiv
 unfolding AllPositive gap mark
 positive-edit alphabet w e o =
     positive-append (gap w e) (mark alphabet e)
-    (by-test (joinsRun w e) (λ j. rw j tt) (λ j. rw j (positive-append (closed w) (matches (e .offset - w .next)) (positive-closed w o) (positive-matches (e .offset - w .next)))))
+    (by-test (joinsRun w e) (λ j. rw j tt) (λ j. rw j (positive-append (openRun w) (matches (e .offset - w .next)) (positive-closed w o) (positive-matches (e .offset - w .next)))))
     (by-test (eqb (e .kind) substitution) (λ h. rw h (tt, tt)) (λ h. rw h tt))
 
 pub positive-from : (alphabet mapped : ℕ) (w : Walk) (es : List Edit) → Open w → AllPositive (operationsFrom alphabet mapped w es)
 unfolding operationsFrom ending
-positive-from alphabet mapped w [] o = positive-append (closed w) (matches (mapped - w .next)) (positive-closed w o) (positive-matches (mapped - w .next))
+positive-from alphabet mapped w [] o = positive-append (openRun w) (matches (mapped - w .next)) (positive-closed w o) (positive-matches (mapped - w .next))
 positive-from alphabet mapped w (e ∷ es) o =
     positive-append (gap w e ++ mark alphabet e) (operationsFrom alphabet mapped (past w e) es) (positive-edit alphabet w e o)
     (positive-from alphabet mapped (past w e) es (inr (past-open w e refl)))
@@ -85,7 +85,7 @@ total-append m (x ∷ xs) ys = rw (total-append m xs ys) (sym (add-assoc (m x) (
 -- what both pointers have in common: a match and a substitution move them, and a run moves them by as much for each edit
 record Moves (m : Operation → ℕ) : Type 0 where
   pub match : (n : ℕ) → m (matched n) ≡ n
-  pub mismatch : (b : ℕ) → m (letter b) ≡ 1
+  pub mismatch : (b : ℕ) → m (substituted b) ≡ 1
   pub insert : (n : ℕ) → m (inserted (n + 1)) ≡ m (inserted n) + m (inserted 1)
   pub delete : (n : ℕ) → m (deleted (n + 1)) ≡ m (deleted n) + m (deleted 1)
 
@@ -108,21 +108,21 @@ module _ (m : Operation → ℕ) (known : Moves m) where
   unfolding total mark
   total-mark alphabet e = by-test (eqb (e .kind) substitution) (λ h. rw (h, known .mismatch (letterOf alphabet (e .symbol)))) (λ h. rw h)
 
-  total-closed-letter : (w : Walk) → w .kind ≡ substitution → total m (closed w) ≡ 0
-  unfolding total closed
+  total-closed-letter : (w : Walk) → w .kind ≡ substitution → total m (openRun w) ≡ 0
+  unfolding total openRun
   total-closed-letter w h = simp (ne-eqb (w .kind) insertion (λ z. omega arith), ne-eqb (w .kind) deletion (λ z. omega arith))
 
-  total-closed-insertion : (w : Walk) → w .kind ≡ insertion → total m (closed w) ≡ m (inserted (w .run))
-  unfolding total closed
+  total-closed-insertion : (w : Walk) → w .kind ≡ insertion → total m (openRun w) ≡ m (inserted (w .run))
+  unfolding total openRun
   total-closed-insertion w h = rw (eq-eqb (w .kind) insertion h) (add-zero (m (inserted (w .run))))
 
-  total-closed-deletion : (w : Walk) → w .kind ≡ deletion → total m (closed w) ≡ m (deleted (w .run))
-  unfolding total closed
+  total-closed-deletion : (w : Walk) → w .kind ≡ deletion → total m (openRun w) ≡ m (deleted (w .run))
+  unfolding total openRun
   total-closed-deletion w h = rw (ne-eqb (w .kind) insertion (λ z. omega arith), eq-eqb (w .kind) deletion h) (add-zero (m (deleted (w .run))))
 
-  total-gap : (w : Walk) (e : Edit) → joinsRun w e ≡ false → total m (gap w e) ≡ total m (closed w) + (e .offset - w .next)
+  total-gap : (w : Walk) (e : Edit) → joinsRun w e ≡ false → total m (gap w e) ≡ total m (openRun w) + (e .offset - w .next)
   unfolding gap
-  total-gap w e j = rw (j, total-append m (closed w) (matches (e .offset - w .next)), total-matches (e .offset - w .next))
+  total-gap w e j = rw (j, total-append m (openRun w) (matches (e .offset - w .next)), total-matches (e .offset - w .next))
 
   total-joined : (w : Walk) (e : Edit) → joinsRun w e ≡ true → total m (gap w e) ≡ 0
   unfolding gap total
@@ -130,14 +130,14 @@ module _ (m : Operation → ℕ) (known : Moves m) where
 
   -- the pieces of one edit, with the run that is then open: the match before it, and what it moves itself
   total-step : (alphabet : ℕ) (w : Walk) (e : Edit) → w .next ≤ e .offset → e .kind ≤ deletion
-      → total m (gap w e) + total m (mark alphabet e) + total m (closed (past w e)) ≡ total m (closed w) + (e .offset - w .next) + own e
+      → total m (gap w e) + total m (mark alphabet e) + total m (openRun (past w e)) ≡ total m (openRun w) + (e .offset - w .next) + own e
   unfolding own
   total-step alphabet w e h k =
       by-test (joinsRun w e) (λ j. joined j) (λ j. rw (total-gap w e j, total-mark alphabet e) (apart j))
     where
       joined : joinsRun w e ≡ true
-          → total m (gap w e) + total m (mark alphabet e) + total m (closed (past w e))
-          ≡ total m (closed w) + (e .offset - w .next) + cond (eqb (e .kind) substitution) 1 (cond (eqb (e .kind) insertion) (m (inserted 1)) (m (deleted 1)))
+          → total m (gap w e) + total m (mark alphabet e) + total m (openRun (past w e))
+          ≡ total m (openRun w) + (e .offset - w .next) + cond (eqb (e .kind) substitution) 1 (cond (eqb (e .kind) insertion) (m (inserted 1)) (m (deleted 1)))
       joined j =
           let i = joins-true w e j in
           let o : e .offset - w .next ≡ 0 = omega (arith, i .there) in
@@ -153,8 +153,8 @@ module _ (m : Operation → ℕ) (known : Moves m) where
           rw (b, total-closed-deletion (past w e) (past-kind w e refl ∙ d), past-joined w e j, total-closed-deletion w (sym (i .same) ∙ d), known .delete (w .run)) (omega arith)))
 
       apart : joinsRun w e ≡ false
-          → total m (closed w) + (e .offset - w .next) + cond (eqb (e .kind) substitution) 1 0 + total m (closed (past w e))
-          ≡ total m (closed w) + (e .offset - w .next) + cond (eqb (e .kind) substitution) 1 (cond (eqb (e .kind) insertion) (m (inserted 1)) (m (deleted 1)))
+          → total m (openRun w) + (e .offset - w .next) + cond (eqb (e .kind) substitution) 1 0 + total m (openRun (past w e))
+          ≡ total m (openRun w) + (e .offset - w .next) + cond (eqb (e .kind) substitution) 1 (cond (eqb (e .kind) insertion) (m (inserted 1)) (m (deleted 1)))
       apart j =
           by-test (eqb (e .kind) substitution)
           (λ a. rw (a, total-closed-letter (past w e) (past-kind w e refl ∙ eqb-true _ _ a)) (omega arith))
@@ -170,16 +170,16 @@ module _ (m : Operation → ℕ) (known : Moves m) where
   total-from : (alphabet mapped symbols : ℕ) (left : ℕ → List Edit → ℕ)
       → ((next : ℕ) → left next [] ≡ mapped - next)
       → ((next : ℕ) (e : Edit) (es : List Edit) → Accepted mapped symbols next e → left next (e ∷ es) ≡ (e .offset - next) + own e + left (nextOffset e) es)
-      → (w : Walk) (es : List Edit) → Sound mapped symbols (w .next) es → total m (operationsFrom alphabet mapped w es) ≡ total m (closed w) + left (w .next) es
+      → (w : Walk) (es : List Edit) → Sound mapped symbols (w .next) es → total m (operationsFrom alphabet mapped w es) ≡ total m (openRun w) + left (w .next) es
   unfolding operationsFrom ending
   total-from alphabet mapped symbols left end on w [] s =
-      rw (total-append m (closed w) (matches (mapped - w .next)), total-matches (mapped - w .next), end (w .next))
+      rw (total-append m (openRun w) (matches (mapped - w .next)), total-matches (mapped - w .next), end (w .next))
   total-from alphabet mapped symbols left end on w (e ∷ es) s =
       let a = accepted mapped symbols (w .next) e (sound-head mapped symbols (w .next) e es s) in
       let n = past-next w e refl in
-      let r : total m (operationsFrom alphabet mapped (past w e) es) ≡ total m (closed (past w e)) + left (past w e .next) es =
+      let r : total m (operationsFrom alphabet mapped (past w e) es) ≡ total m (openRun (past w e)) + left (past w e .next) es =
       total-from alphabet mapped symbols left end on (past w e) es (rw n (sound-tail mapped symbols (w .next) e es s)) in
-      let q : total m (operationsFrom alphabet mapped (past w e) es) ≡ total m (closed (past w e)) + left (nextOffset e) es = r ∙ ap (λ (x : ℕ). total m (closed (past w e)) + left x es) n in
+      let q : total m (operationsFrom alphabet mapped (past w e) es) ≡ total m (openRun (past w e)) + left (nextOffset e) es = r ∙ ap (λ (x : ℕ). total m (openRun (past w e)) + left x es) n in
       omega (
         arith,
         total-append m (gap w e ++ mark alphabet e) (operationsFrom alphabet mapped (past w e) es),
@@ -280,7 +280,7 @@ module _ (class alphabet : ℕ) (frame : List ℕ) (s : Segment)
 from-most : (alphabet mapped symbols : ℕ) (w : Walk) (es : List Edit) → Open w → w .next ≤ mapped → Sound mapped symbols (w .next) es
     → length (printed (operationsFrom alphabet mapped w es)) + 2 * w .next ≤ 2 * w .run + 2 * mapped + 2 * length es
 from-most alphabet mapped symbols w [] o n s =
-    omega (arith, ap length (text-end alphabet mapped w ∙ ending-both mapped w), length-append (printed (closed w)) (printed (matches (mapped - w .next))), closed-most w o, matches-most (mapped - w .next))
+    omega (arith, ap length (text-end alphabet mapped w ∙ ending-both mapped w), length-append (printed (openRun w)) (printed (matches (mapped - w .next))), closed-most w o, matches-most (mapped - w .next))
 from-most alphabet mapped symbols w (e ∷ es) o n s =
     let a = accepted mapped symbols (w .next) e (sound-head mapped symbols (w .next) e es s) in
     let q = past-next w e refl in

@@ -18,7 +18,7 @@ use Rattle.block.specs.declared.edit.Edit.{Edit}
 use Rattle.block.proofs.EditLaws.{Accepted, accepted, sound-head, sound-tail, next-deletion, next-other}
 use Rattle.ecigar.specs.declared.walk.Walk.{Walk}
 use Rattle.ecigar.specs.Table90.{counted, equalsSign, plusSign, minusSign, printed}
-use Rattle.ecigar.specs.Ecigar.{setOut, joinsRun, past, matches, closed, gap, mark, operationsFrom, offsetsOf, lettersIn, typesOf}
+use Rattle.ecigar.specs.Ecigar.{setOut, joinsRun, past, matches, openRun, gap, mark, operationsFrom, offsetsOf, lettersIn, typesOf}
 use Rattle.ecigar.specs.Table93.{item, withMatch, mismatchLoop, Run, insertionLoop, deletionLoop, indelLoop}
 use Rattle.ecigar.proofs.PrintLaws.{printed-append}
 use Rattle.ecigar.proofs.WalkLaws.{matches-none, matches-some, closed-insertion, closed-deletion, closed-none, gap-joined, gap-apart, mark-letter, mark-none, text-on, text-end, ending-both, past-next, past-kind, past-joined, past-apart, joins-same, joins-not, apart-letter}
@@ -63,7 +63,7 @@ with-match text n =
 abbrev plain : ℕ → Walk
 plain next = record { next = next; kind = substitution; run = 0 }
 
-closed-plain : (w : Walk) → w .kind ≡ substitution → printed (closed w) ≡ []
+closed-plain : (w : Walk) → w .kind ≡ substitution → printed (openRun w) ≡ []
 closed-plain w h = closed-none w (λ z. omega arith) (λ z. omega arith)
 
 apart-plain : (w : Walk) (e : Edit) → w .kind ≡ substitution → joinsRun w e ≡ false
@@ -77,9 +77,9 @@ module _ (alphabet len : ℕ) where
   pub end-plain : (w : Walk) → w .kind ≡ substitution → printed (operationsFrom alphabet len w []) ≡ printed (matches (len - w .next))
   end-plain w h = text-end alphabet len w ∙ rw (ending-both len w, closed-plain w h)
 
-  -- an edit that joins no run: the run is closed first
+  -- an edit that joins no run: the run is openRun first
   shut-on : (w : Walk) (e : Edit) (rest : List Edit) → joinsRun w e ≡ false
-      → printed (operationsFrom alphabet len w (e ∷ rest)) ≡ printed (closed w) ++ printed (operationsFrom alphabet len (plain (w .next)) (e ∷ rest))
+      → printed (operationsFrom alphabet len w (e ∷ rest)) ≡ printed (openRun w) ++ printed (operationsFrom alphabet len (plain (w .next)) (e ∷ rest))
   unfolding past
   shut-on w e rest h =
       let g = apart-plain (plain (w .next)) e refl in
@@ -87,7 +87,7 @@ module _ (alphabet len : ℕ) where
       ∙ rw (printed-append (gap w e) (mark alphabet e), gap-apart w e h, text-on alphabet len (plain (w .next)) e rest, printed-append (gap (plain (w .next)) e) (mark alphabet e), gap-plain (plain (w .next)) e refl, h, g)
       (simp append-assoc)
 
-  shut-end : (w : Walk) → printed (operationsFrom alphabet len w []) ≡ printed (closed w) ++ printed (operationsFrom alphabet len (plain (w .next)) [])
+  shut-end : (w : Walk) → printed (operationsFrom alphabet len w []) ≡ printed (openRun w) ++ printed (operationsFrom alphabet len (plain (w .next)) [])
   shut-end w = text-end alphabet len w ∙ rw (ending-both len w, end-plain (plain (w .next)) refl)
 
 -- ---- the inner loops, which differ in the type, and in what they add to the offset
@@ -146,7 +146,7 @@ module _ (kind more : ℕ) (es : List Edit) where
 record Indel (type more sign : ℕ) : Type 0 where
   pub apart : type ≡ substitution → ⊥
   pub after : (e : Edit) → e .kind ≡ type → nextOffset e ≡ e .offset + more
-  pub ends : (w : Walk) → w .kind ≡ type → printed (closed w) ≡ counted (w .run) sign
+  pub ends : (w : Walk) → w .kind ≡ type → printed (openRun w) ≡ counted (w .run) sign
 
 indel-insertion : Indel insertion 1 plusSign
 indel-insertion = record { apart = λ z. omega arith; after = λ e h. next-other e (λ z. omega arith); ends = closed-insertion }

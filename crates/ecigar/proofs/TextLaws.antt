@@ -87,12 +87,3 @@ module _ (class alphabet : ℕ) (frame : List ℕ) (s : Segment) (taken text : �
   pub checked-length : length (ecigarText class alphabet frame s) ≡ text + clipsLength (s .clips)
   unfolding clipsLength
   checked-length = omega (arith, length-text class alphabet frame s, checked-fine class alphabet frame (s .«edits_at») (s .edits) (mappedLength (s .length) (s .clips)) taken text checked .text)
-
-  -- what `write` requires is met by what `check` accepted, where the edits' place is inside the frame and there is room for so many characters
-  pub checked-ready : (at room : ℕ) → s .«edits_at» ≤ length frame → at + 2 * (text + clipsLength (s .clips)) ≤ room
-      → ((s .edits ≤ mostEdits) × (s .«edits_at» + s .edits * widthOf class ≤ length frame))
-      × (Sound (mappedLength (s .length) (s .clips)) (sizeOf alphabet) 0 (segmentEdits class alphabet frame s)
-      × (at + 2 * length (ecigarText class alphabet frame s) ≤ room))
-  checked-ready at room inside enough =
-      let f = checked-fine class alphabet frame (s .«edits_at») (s .edits) (mappedLength (s .length) (s .clips)) taken text checked in
-      ((f .few, f .framed inside), (f .sound, rw checked-length enough))

@@ -15,8 +15,8 @@ use Rattle.block.specs.Edits.{substitution, insertion, deletion, nextOffset}
 use Rattle.block.specs.declared.edit.Edit.{Edit}
 use Rattle.block.proofs.EditLaws.{next-least, next-other}
 use Rattle.ecigar.specs.declared.walk.Walk.{Walk}
-use Rattle.ecigar.specs.Table90.{matched, letter, inserted, deleted, softClipped, hardClipped, counted, equalsSign, plusSign, minusSign, roundOpen, roundClose, squareOpen, squareClose, printed}
-use Rattle.ecigar.specs.Ecigar.{joinsRun, past, matches, closed, gap, mark, ending, clip, operationsFrom}
+use Rattle.ecigar.specs.Table90.{matched, substituted, inserted, deleted, softClipped, hardClipped, counted, equalsSign, plusSign, minusSign, roundOpen, roundClose, squareOpen, squareClose, printed}
+use Rattle.ecigar.specs.Ecigar.{joinsRun, past, matches, openRun, gap, mark, ending, clip, operationsFrom}
 use Rattle.ecigar.proofs.PrintLaws.{digits-most, length-counted, printed-append, printed-one}
 
 -- ---- a match
@@ -31,16 +31,16 @@ matches-some n h = rw (ne-eqb _ _ h) (printed-one (matched n))
 
 -- ---- the run that is open
 
-pub closed-insertion : (w : Walk) → w .kind ≡ insertion → printed (closed w) ≡ counted (w .run) plusSign
-unfolding closed
+pub closed-insertion : (w : Walk) → w .kind ≡ insertion → printed (openRun w) ≡ counted (w .run) plusSign
+unfolding openRun
 closed-insertion w h = rw (eq-eqb _ _ h) (printed-one (inserted (w .run)))
 
-pub closed-deletion : (w : Walk) → (w .kind ≡ insertion → ⊥) → w .kind ≡ deletion → printed (closed w) ≡ counted (w .run) minusSign
-unfolding closed
+pub closed-deletion : (w : Walk) → (w .kind ≡ insertion → ⊥) → w .kind ≡ deletion → printed (openRun w) ≡ counted (w .run) minusSign
+unfolding openRun
 closed-deletion w g h = rw (ne-eqb _ _ g, eq-eqb _ _ h) (printed-one (deleted (w .run)))
 
-pub closed-none : (w : Walk) → (w .kind ≡ insertion → ⊥) → (w .kind ≡ deletion → ⊥) → printed (closed w) ≡ []
-unfolding closed printed
+pub closed-none : (w : Walk) → (w .kind ≡ insertion → ⊥) → (w .kind ≡ deletion → ⊥) → printed (openRun w) ≡ []
+unfolding openRun printed
 closed-none w g h = simp (ne-eqb _ _ g, ne-eqb _ _ h)
 
 -- ---- before an edit, its letter, and behind the last
@@ -49,13 +49,13 @@ pub gap-joined : (w : Walk) (e : Edit) → joinsRun w e ≡ true → printed (ga
 unfolding gap printed
 gap-joined w e h = simp h
 
-pub gap-apart : (w : Walk) (e : Edit) → joinsRun w e ≡ false → printed (gap w e) ≡ printed (closed w) ++ printed (matches (e .offset - w .next))
+pub gap-apart : (w : Walk) (e : Edit) → joinsRun w e ≡ false → printed (gap w e) ≡ printed (openRun w) ++ printed (matches (e .offset - w .next))
 unfolding gap
-gap-apart w e h = rw h (printed-append (closed w) (matches (e .offset - w .next)))
+gap-apart w e h = rw h (printed-append (openRun w) (matches (e .offset - w .next)))
 
 pub mark-letter : (alphabet : ℕ) (e : Edit) → e .kind ≡ substitution → printed (mark alphabet e) ≡ letterOf alphabet (e .symbol) ∷ []
 unfolding mark
-mark-letter alphabet e h = rw (eq-eqb _ _ h) (printed-one (letter (letterOf alphabet (e .symbol))))
+mark-letter alphabet e h = rw (eq-eqb _ _ h) (printed-one (substituted (letterOf alphabet (e .symbol))))
 
 pub mark-none : (alphabet : ℕ) (e : Edit) → (e .kind ≡ substitution → ⊥) → printed (mark alphabet e) ≡ []
 unfolding mark printed
@@ -67,9 +67,9 @@ length-mark alphabet e =
     (λ h. rw (h, mark-letter alphabet e (eqb-true _ _ h)))
     (λ h. rw (h, mark-none alphabet e (eqb-false _ _ h)))
 
-pub ending-both : (mapped : ℕ) (w : Walk) → printed (ending mapped w) ≡ printed (closed w) ++ printed (matches (mapped - w .next))
+pub ending-both : (mapped : ℕ) (w : Walk) → printed (ending mapped w) ≡ printed (openRun w) ++ printed (matches (mapped - w .next))
 unfolding ending
-ending-both mapped w = printed-append (closed w) (matches (mapped - w .next))
+ending-both mapped w = printed-append (openRun w) (matches (mapped - w .next))
 
 -- ---- the clip of one side
 
@@ -173,7 +173,7 @@ matches-most n =
     by-test (eqb n 0) (λ h. rw (matches-none n (eqb-true _ _ h)) (omega arith))
     (λ h. let g = eqb-false n 0 h in rw (matches-some n g) (counted-most n equalsSign (omega arith)))
 
-pub closed-most : (w : Walk) → Open w → length (printed (closed w)) ≤ 2 * w .run
+pub closed-most : (w : Walk) → Open w → length (printed (openRun w)) ≤ 2 * w .run
 closed-most w o =
     by-test (eqb (w .kind) insertion)
     (λ h. let k = eqb-true (w .kind) insertion h in rw (closed-insertion w k) (counted-most (w .run) plusSign (⊎-elim (λ z. absurd (omega arith)) (λ z. z) o)))
@@ -183,7 +183,7 @@ closed-most w o =
     (λ i. let k = eqb-true (w .kind) deletion i in rw (closed-deletion w g k) (counted-most (w .run) minusSign (⊎-elim (λ z. absurd (omega arith)) (λ z. z) o)))
     (λ i. rw (closed-none w g (eqb-false _ _ i)) (omega arith)))
 
--- an edit adds to the text what the walk moves by, and leaves its own run to be closed later
+-- an edit adds to the text what the walk moves by, and leaves its own run to be openRun later
 pub edit-most : (w : Walk) (e : Edit) → Open w → w .next ≤ e .offset
     → length (printed (gap w e)) + cond (eqb (e .kind) substitution) 1 0 + 2 * past w e .run + 2 * w .next ≤ 2 * w .run + 2 * nextOffset e + 2
 unfolding past

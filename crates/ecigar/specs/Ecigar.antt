@@ -1,20 +1,23 @@
--- The E-CIGAR of a segment as one walk over its edits: Table 93's loops with the run that is open kept as state, and Table 92's clips.
--- `ecigar-is-table92` (proofs/Table92Laws) says that this is the standard's text. Assumes nothing.
+-- How the code walks over a segment's edits: Table 93's loops with the run that is open kept as state, and Table 92's clips. Nobody need read this
+-- beside the standard: `ecigar-is-table92` (proofs/Table92Laws) says that its text is Table 92's for every segment that is `Aligned` and `Sound`.
+-- Assumes nothing.
 use Prim.Native.Nat.{ℕ, _+_, _-_, _<_, _≤_}
 use mathlib.Core.Path.{_≡_}
 use mathlib.Core.Bool.{Bool, false, cond, not}
-use mathlib.Core.List.{List, [], _∷_, _++_, map}
+use mathlib.Core.List.{List, [], _∷_, _++_}
 use lib.Dec.{eqb}
 use lib.ListN.{length}
 use Rattle.alphabet.specs.Table35.{letterOf}
-use Rattle.block.specs.Edits.{substitution, insertion, deletion, nextOffset, editsAt}
+use Rattle.block.specs.Edits.{substitution, insertion, deletion, nextOffset}
 use Rattle.unit.specs.Unit.{classP, classI, classHM}
 use Rattle.block.specs.Segment.{noClips, mappedLength}
 use Rattle.block.specs.declared.edit.Edit.{Edit}
 use Rattle.block.specs.declared.Clips.{Clips}
 use Rattle.block.specs.declared.Segment.{Segment}
 use Rattle.ecigar.specs.declared.walk.Walk.{Walk}
-use Rattle.ecigar.specs.Table90.{Operation, matched, letter, inserted, deleted, softClipped, hardClipped, printed}
+pub use Rattle.block.specs.Edits.{segmentEdits}
+pub use Rattle.ecigar.specs.Table92.{offsetsOf, lettersIn, typesOf}
+use Rattle.ecigar.specs.Table90.{Operation, matched, substituted, inserted, deleted, softClipped, hardClipped, printed}
 
 -- before the first edit: previousOffset is 0 and no run is open
 abbrev pub setOut : Walk
@@ -29,40 +32,40 @@ unfoldable pub past : Walk → Edit → Walk
 past w e = record { next = nextOffset e; kind = e .kind; run = cond (joinsRun w e) (w .run + 1) 1 }
 
 -- a match, where there is one
-unfoldable pub matches : ℕ → List Operation
+unfoldable pub matches : (n : ℕ) → List Operation
 matches n = cond (eqb n 0) [] (matched n ∷ [])
 
 -- the run that is open, if one is
-unfoldable pub closed : Walk → List Operation
-closed w = cond (eqb (w .kind) insertion) (inserted (w .run) ∷ []) (cond (eqb (w .kind) deletion) (deleted (w .run) ∷ []) [])
+unfoldable pub openRun : Walk → List Operation
+openRun w = cond (eqb (w .kind) insertion) (inserted (w .run) ∷ []) (cond (eqb (w .kind) deletion) (deleted (w .run) ∷ []) [])
 
 -- what stands between the last edit and this one: nothing within a run, else the run that ends here and the match
 unfoldable pub gap : Walk → Edit → List Operation
-gap w e = cond (joinsRun w e) [] (closed w ++ matches (e .offset - w .next))
+gap w e = cond (joinsRun w e) [] (openRun w ++ matches (e .offset - w .next))
 
 -- the letter of a substitution
-unfoldable pub mark : ℕ → Edit → List Operation
-mark alphabet e = cond (eqb (e .kind) substitution) (letter (letterOf alphabet (e .symbol)) ∷ []) []
+unfoldable pub mark : (alphabet : ℕ) → Edit → List Operation
+mark alphabet e = cond (eqb (e .kind) substitution) (substituted (letterOf alphabet (e .symbol)) ∷ []) []
 
 -- the run that is still open after the last edit, and the match behind it
-unfoldable pub ending : ℕ → Walk → List Operation
-ending mapped w = closed w ++ matches (mapped - w .next)
+unfoldable pub ending : (mapped : ℕ) → Walk → List Operation
+ending mapped w = openRun w ++ matches (mapped - w .next)
 
 -- the operations from a place of the walk on
-unfoldable pub operationsFrom : ℕ → ℕ → Walk → List Edit → List Operation
+unfoldable pub operationsFrom : (alphabet mapped : ℕ) → Walk → List Edit → List Operation
 operationsFrom alphabet mapped w [] = ending mapped w
 operationsFrom alphabet mapped w (e ∷ es) = (gap w e ++ mark alphabet e) ++ operationsFrom alphabet mapped (past w e) es
 
 -- the operations of a list of edits, without clips
-abbrev pub operationsOf : ℕ → ℕ → List Edit → List Operation
+abbrev pub operationsOf : (alphabet mapped : ℕ) → List Edit → List Operation
 operationsOf alphabet mapped es = operationsFrom alphabet mapped setOut es
 
 -- decodedEcigar of Table 93: their text
-unfoldable pub ecigarOf : ℕ → ℕ → List Edit → List ℕ
+unfoldable pub ecigarOf : (alphabet mapped : ℕ) → List Edit → List ℕ
 ecigarOf alphabet mapped es = printed (operationsOf alphabet mapped es)
 
 -- the clip of one side: on a side with soft clips a hard clip is not written (document 01)
-unfoldable pub clip : ℕ → ℕ → List Operation
+unfoldable pub clip : (soft hard : ℕ) → List Operation
 clip soft hard = cond (not (eqb soft 0)) (softClipped soft ∷ []) (cond (not (eqb hard 0)) (hardClipped hard ∷ []) [])
 
 abbrev pub leftClip : Clips → List Operation
@@ -71,36 +74,20 @@ leftClip c = clip (c .«left_soft») (c .«left_hard»)
 abbrev pub rightClip : Clips → List Operation
 rightClip c = clip (c .«right_soft») (c .«right_hard»)
 
--- the edits of a segment, where its block says
-abbrev pub segmentEdits : ℕ → ℕ → List ℕ → Segment → List Edit
-segmentEdits class alphabet frame s = editsAt class alphabet frame (s .edits) (s .«edits_at»)
-
 -- the operations of a segment: left clip, edits, right clip
-unfoldable pub segmentOperations : ℕ → ℕ → List ℕ → Segment → List Operation
+unfoldable pub segmentOperations : (class alphabet : ℕ) (frame : List ℕ) → Segment → List Operation
 segmentOperations class alphabet frame s =
     leftClip (s .clips)
     ++ operationsOf alphabet (mappedLength (s .length) (s .clips)) (segmentEdits class alphabet frame s)
     ++ rightClip (s .clips)
 
 -- the text of a segment
-unfoldable pub ecigarText : ℕ → ℕ → List ℕ → Segment → List ℕ
+unfoldable pub ecigarText : (class alphabet : ℕ) (frame : List ℕ) → Segment → List ℕ
 ecigarText class alphabet frame s = printed (segmentOperations class alphabet frame s)
 
 -- the length of both clips
 unfoldable pub clipsLength : Clips → ℕ
 clipsLength c = length (printed (leftClip c)) + length (printed (rightClip c))
-
--- ---- what Table 92 takes of a segment
-
--- mismatchOffsets[s], mismatches[s] as letters, mismatchTypes[s]
-abbrev pub offsetsOf : List Edit → List ℕ
-offsetsOf es = map (λ (e : Edit). e .offset) es
-
-abbrev pub lettersIn : ℕ → List Edit → List ℕ
-lettersIn alphabet es = map (λ (e : Edit). letterOf alphabet (e .symbol)) es
-
-abbrev pub typesOf : List Edit → List ℕ
-typesOf es = map (λ (e : Edit). e .kind) es
 
 -- a segment as its class has it (document 01, Lines and Building a read): only I and HM have clips, P has no edits, and a base is mapped
 pub record Aligned (class : ℕ) (s : Segment) : Type 0 where

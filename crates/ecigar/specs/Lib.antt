@@ -4,4 +4,3 @@ pub mod Table93
 pub mod Table92
 pub mod Check
 pub mod Tally
-pub mod Examples

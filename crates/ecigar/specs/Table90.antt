@@ -7,7 +7,7 @@ use Rattle.writing.specs.Decimal.{decimal}
 -- the rows of the table: a match, a substitution by a letter, an insertion, a deletion, a soft clip, a hard clip
 pub data Operation : Type 0 where
   matched : ℕ → Operation
-  letter : ℕ → Operation
+  substituted : ℕ → Operation
   inserted : ℕ → Operation
   deleted : ℕ → Operation
   softClipped : ℕ → Operation
@@ -40,13 +40,13 @@ abbrev pub squareClose : ℕ
 squareClose = 93
 
 -- a count in base 10, and the sign behind it
-abbrev pub counted : ℕ → ℕ → List ℕ
+abbrev pub counted : (n sign : ℕ) → List ℕ
 counted n sign = decimal n ++ sign ∷ []
 
 -- the column "E-CIGAR representation": n= b n+ n- (n) [n]
 abbrev pub print : Operation → List ℕ
 print (matched n) = counted n equalsSign
-print (letter b) = b ∷ []
+print (substituted b) = b ∷ []
 print (inserted n) = counted n plusSign
 print (deleted n) = counted n minusSign
 print (softClipped n) = roundOpen ∷ counted n roundClose
@@ -60,7 +60,7 @@ printed (o ∷ os) = print o ++ printed os
 -- the column "Operation": how far it moves pointer-to-read r
 abbrev pub movesRead : Operation → ℕ
 movesRead (matched n) = n
-movesRead (letter b) = 1
+movesRead (substituted b) = 1
 movesRead (inserted n) = n
 movesRead (deleted n) = 0
 movesRead (softClipped n) = n
@@ -69,21 +69,21 @@ movesRead (hardClipped n) = 0
 -- the column "Operation": how far it moves pointer-to-reference R
 abbrev pub movesReference : Operation → ℕ
 movesReference (matched n) = n
-movesReference (letter b) = 1
+movesReference (substituted b) = 1
 movesReference (inserted n) = 0
 movesReference (deleted n) = n
 movesReference (softClipped n) = 0
 movesReference (hardClipped n) = 0
 
 -- what operations move a pointer by, together
-unfoldable pub total : (Operation → ℕ) → List Operation → ℕ
+unfoldable pub total : (moves : Operation → ℕ) → List Operation → ℕ
 total moves [] = 0
 total moves (o ∷ os) = moves o + total moves os
 
 -- a count is never 0 (document 01, Building a read)
 abbrev pub Positive : Operation → Type 0
 Positive (matched n) = 1 ≤ n
-Positive (letter b) = Unit
+Positive (substituted b) = Unit
 Positive (inserted n) = 1 ≤ n
 Positive (deleted n) = 1 ≤ n
 Positive (softClipped n) = 1 ≤ n

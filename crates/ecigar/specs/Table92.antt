@@ -1,12 +1,15 @@
 -- Table 92: decoding process for the e-cigar strings of a genomic record without spliced reads, for one segment s.
--- The variables have the table's names, without their index [s].
+-- The variables have the table's names, without their index [s]; its outer loop, for(s = 0; s < numberOfAlignedRecordSegments; s++), is the aligned segments of
+-- the record (10.4.10: 1 in HM, 0 in U, else numberOfRecordSegments), which plan's `firstPart` and `secondPart` tell by the class.
 -- Assumes nothing.
 use Prim.Native.Nat.{ℕ, _-_}
 use mathlib.Core.Bool.{cond, not, _||_}
-use mathlib.Core.List.{List, [], _∷_, _++_}
+use mathlib.Core.List.{List, [], _∷_, _++_, map}
 use lib.Dec.{eqb}
 use lib.ListN.{length}
 use Rattle.unit.specs.Unit.{classP, classN, classM, classI, classHM}
+use Rattle.alphabet.specs.Table35.{letterOf}
+use Rattle.block.specs.declared.edit.Edit.{Edit}
 use Rattle.ecigar.specs.Table90.{roundOpen, roundClose, squareOpen, squareClose}
 use Rattle.ecigar.specs.Table93.{inttostr, decodeECigarMismatches}
 
@@ -38,3 +41,17 @@ ecigarString classId readLength numMismatches mismatchOffsets mismatches mismatc
     let ecigar : List ℕ = decodeECigarMismatches classId mappedLength numMismatches mismatchOffsets mismatches mismatchTypes in
     rightClipped rightSoftClips rightHardClips (leftClipped leftSoftClips leftHardClips ecigar))
     [])))
+
+-- ---- what Table 92 is given for a segment
+
+-- mismatchOffsets[s]
+abbrev pub offsetsOf : List Edit → List ℕ
+offsetsOf es = map (λ (e : Edit). e .offset) es
+
+-- mismatches[s] (Table 52: letters; undefined for a deletion, and not looked at)
+abbrev pub lettersIn : (alphabet : ℕ) → List Edit → List ℕ
+lettersIn alphabet es = map (λ (e : Edit). letterOf alphabet (e .symbol)) es
+
+-- mismatchTypes[s]
+abbrev pub typesOf : List Edit → List ℕ
+typesOf es = map (λ (e : Edit). e .kind) es

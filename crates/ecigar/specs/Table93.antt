@@ -1,5 +1,6 @@
 -- Table 93: decoding process for the mismatches within one e-cigar string.
 -- The variables have the table's names. A while loop is a function that calls itself; `left` only makes it end, and mmNumber turns are always enough.
+-- The page has lost the brace that closes Class_I: the last "delta = len - previousOffset" is that case's own, as N and M have theirs; "tostr" there is inttostr.
 -- Where offsets are in order, as in every list that is accepted, no difference here is below 0.
 -- Assumes nothing.
 use Prim.Native.Nat.{ℕ, zero, suc, _+_, _-_}
@@ -57,22 +58,22 @@ deletionLoop mmNumber mmOffsets mmTypes (suc left) r =
     (deletionLoop mmNumber mmOffsets mmTypes left (record { i = r .i + 1; previousOffset = item mmOffsets (r .i); count = r .count + 1 }))
     r
 
+-- behind an inner loop: ecigar = strcat(ecigar, inttostr(count)), ecigar = strcat(ecigar, sign), and the outer loop again
+abbrev pub afterRun : (again : ℕ → ℕ → List ℕ → List ℕ) (sign : ℕ) (ecigar : List ℕ) → Run → List ℕ
+afterRun again sign ecigar run = again (run .i) (run .previousOffset) (ecigar ++ (inttostr (run .count) ++ sign ∷ []))
+
 -- Class_I and Class_HM, from while(i < mmNumber) on. A type that the table does not have would never let its loop end
 unfoldable pub indelLoop : (len mmNumber : ℕ) (mmOffsets mms mmTypes : List ℕ) (left i previousOffset : ℕ) (ecigar : List ℕ) → List ℕ
 indelLoop len mmNumber mmOffsets mms mmTypes zero i previousOffset ecigar = withMatch ecigar (len - previousOffset)
 indelLoop len mmNumber mmOffsets mms mmTypes (suc left) i previousOffset ecigar =
-    cond (ltb i mmNumber)
-    (let matched : List ℕ = withMatch ecigar (item mmOffsets i - previousOffset) in
+    let again : ℕ → ℕ → List ℕ → List ℕ = indelLoop len mmNumber mmOffsets mms mmTypes left in
+    let matched : List ℕ = withMatch ecigar (item mmOffsets i - previousOffset) in
     let fresh : Run = record { i = i; previousOffset = item mmOffsets i; count = 0 } in
-    cond (eqb (item mmTypes i) 0)
-    (indelLoop len mmNumber mmOffsets mms mmTypes left (i + 1) (item mmOffsets i + 1) (matched ++ item mms i ∷ []))
-    (cond (eqb (item mmTypes i) 1)
-    (let run : Run = insertionLoop mmNumber mmOffsets mmTypes mmNumber fresh in
-    indelLoop len mmNumber mmOffsets mms mmTypes left (run .i) (run .previousOffset) (matched ++ (inttostr (run .count) ++ plusSign ∷ [])))
-    (cond (eqb (item mmTypes i) 2)
-    (let run : Run = deletionLoop mmNumber mmOffsets mmTypes mmNumber fresh in
-    indelLoop len mmNumber mmOffsets mms mmTypes left (run .i) (run .previousOffset) (matched ++ (inttostr (run .count) ++ minusSign ∷ [])))
-    (indelLoop len mmNumber mmOffsets mms mmTypes left i (item mmOffsets i) matched))))
+    cond (ltb i mmNumber)
+    (cond (eqb (item mmTypes i) 0) (again (i + 1) (item mmOffsets i + 1) (matched ++ item mms i ∷ []))
+    (cond (eqb (item mmTypes i) 1) (afterRun again plusSign matched (insertionLoop mmNumber mmOffsets mmTypes mmNumber fresh))
+    (cond (eqb (item mmTypes i) 2) (afterRun again minusSign matched (deletionLoop mmNumber mmOffsets mmTypes mmNumber fresh))
+    (again i (item mmOffsets i) matched))))
     (withMatch ecigar (len - previousOffset))
 
 -- decodedEcigar

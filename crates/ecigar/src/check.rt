@@ -13,11 +13,12 @@ ghost use Prim.Native.Nat.{_+_, _-_, _<_, _≤_};
 ghost use lib.ListN.{length};
 ghost use Rattle.frame.specs.Hex.{unhex};
 ghost use Rattle.writing.specs.Decimal.{decimal};
+ghost use Rattle.block.specs.Edits.{takenBy};
 ghost use Rattle.block.specs.Segment.{mostRead, mostEdits, mostEcigar};
 ghost use Rattle.ecigar.specs.Table90.{printed};
-ghost use Rattle.ecigar.specs.Ecigar.{closed, matches, gap};
+ghost use Rattle.ecigar.specs.Ecigar.{openRun, matches, gap};
 ghost use Rattle.ecigar.specs.Check.{endsWithin, editsChecked, checkOf};
-ghost use Rattle.ecigar.specs.Tally.{startTally, takenBy, textBy, tallied, finished};
+ghost use Rattle.ecigar.specs.Tally.{startTally, textBy, tallied, finished};
 
 // What the check keeps from edit to edit: the walk, the reference positions taken, and the length of the text so far.
 pub struct Tally {
@@ -62,7 +63,7 @@ fn matches_len(n: u32) -> u32
 }
 
 fn closed_len(w: Walk) -> u32
-    ensures { λ r. ⌜ (r ≡ length (printed (closed w))) × (r ≤ 11) ⌝ }
+    ensures { λ r. ⌜ (r ≡ length (printed (openRun w))) × (r ≤ 11) ⌝ }
 {
     if w.kind == Edit::INSERTION {
         return count_len(w.run);
@@ -155,16 +156,16 @@ fn ends_within(line: &[u8], at: usize, bytes: usize) -> bool
 fn check_edits(
     line: &[u8],
     class: u32,
-    letters: u32,
+    alphabet: u32,
     place: usize,
     count: u32,
     mapped: u32,
 ) -> Checked
     requires { ⌜ (count ≤ mostEdits) × (mapped ≤ mostRead) ⌝ }
-    ensures { λ r. ⌜ r ≡ editsChecked class letters (unhex (now (line .entry))) place count mapped ⌝ }
+    ensures { λ r. ⌜ r ≡ editsChecked class alphabet (unhex (now (line .entry))) place count mapped ⌝ }
 {
     let step = width(class);
-    let symbols = alphabet::size(letters);
+    let symbols = alphabet::size(alphabet);
     let mut t = Tally::start();
     let mut at = place;
     let mut left = count;
@@ -172,10 +173,10 @@ fn check_edits(
         if ends_within(line, at, step) {
             return Checked::Refused(refusal::MISFRAMED);
         }
-        let e = edit_at(line, class, letters, at);
+        let e = edit_at(line, class, alphabet, at);
         let w = t.walk;
         let no = refusal_of(e, w.next, mapped, symbols);
-        if no != 0 {
+        if no != refusal::FINE {
             return Checked::Refused(no);
         }
         t = take_edit(t, e);
@@ -189,12 +190,12 @@ fn check_edits(
 pub fn check(
     line: &[u8],
     class: u32,
-    letters: u32,
+    alphabet: u32,
     place: usize,
     count: u32,
     mapped: u32,
 ) -> Checked
-    ensures { λ r. ⌜ r ≡ checkOf class letters (unhex (now (line .entry))) place count mapped ⌝ }
+    ensures { λ r. ⌜ r ≡ checkOf class alphabet (unhex (now (line .entry))) place count mapped ⌝ }
 {
     if Segment::EDITS < count {
         return Checked::Refused(refusal::FIELD_OUT);
@@ -202,5 +203,5 @@ pub fn check(
     if Segment::READ < mapped {
         return Checked::Refused(refusal::LENGTH_OUT);
     }
-    check_edits(line, class, letters, place, count, mapped)
+    check_edits(line, class, alphabet, place, count, mapped)
 }

@@ -19,7 +19,7 @@ ghost use Rattle.alphabet.specs.Table35.{sizeOf};
 ghost use Rattle.block.specs.Edits.{widthOf, editsAt, Sound};
 ghost use Rattle.block.specs.Segment.{mostEdits, mappedLength};
 ghost use Rattle.ecigar.specs.Table90.{counted, printed};
-ghost use Rattle.ecigar.specs.Ecigar.{closed, matches, gap, mark, ending, ecigarOf, segmentEdits, ecigarText};
+ghost use Rattle.ecigar.specs.Ecigar.{openRun, matches, gap, mark, ending, ecigarOf, segmentEdits, ecigarText};
 
 // A count and its sign.
 pub(crate) fn put_count(out: &mut [u8], at: usize, n: u32, sign: u8) -> usize
@@ -42,8 +42,8 @@ fn put_matches(out: &mut [u8], at: usize, n: u32) -> usize
 
 // The run that is open, if one is.
 fn put_closed(out: &mut [u8], at: usize, w: Walk) -> usize
-    requires { ⌜ at + 2 * length (printed (closed w)) ≤ length (now out) ⌝ }
-    ensures { λ r. ⌜ Laid (now (out .entry)) (now (out .exit)) at r (printed (closed w)) ⌝ }
+    requires { ⌜ at + 2 * length (printed (openRun w)) ≤ length (now out) ⌝ }
+    ensures { λ r. ⌜ Laid (now (out .entry)) (now (out .exit)) at r (printed (openRun w)) ⌝ }
 {
     if w.kind == Edit::INSERTION {
         return put_count(out, at, w.run, b'+');
@@ -67,24 +67,24 @@ fn put_gap(out: &mut [u8], at: usize, w: Walk, e: Edit) -> usize
 }
 
 // The letter of a substitution. The letter - of alphabet 1 is one like the others.
-fn put_mark(out: &mut [u8], at: usize, letters: u32, e: Edit) -> usize
-    requires { ⌜ at + 2 * length (printed (mark letters e)) ≤ length (now out) ⌝ }
-    ensures { λ r. ⌜ Laid (now (out .entry)) (now (out .exit)) at r (printed (mark letters e)) ⌝ }
+fn put_mark(out: &mut [u8], at: usize, alphabet: u32, e: Edit) -> usize
+    requires { ⌜ at + 2 * length (printed (mark alphabet e)) ≤ length (now out) ⌝ }
+    ensures { λ r. ⌜ Laid (now (out .entry)) (now (out .exit)) at r (printed (mark alphabet e)) ⌝ }
 {
     if e.kind == Edit::SUBSTITUTION {
-        let b = alphabet::letter(letters, e.symbol as u32);
+        let b = alphabet::letter(alphabet, e.symbol as u32);
         return put_byte(out, at, b);
     }
     at
 }
 
 // What one edit adds to the text.
-fn put_edit(out: &mut [u8], at: usize, letters: u32, w: Walk, e: Edit) -> usize
-    requires { ⌜ (w .next ≤ e .offset) × (at + 2 * length (printed (gap w e ++ mark letters e)) ≤ length (now out)) ⌝ }
-    ensures { λ r. ⌜ Laid (now (out .entry)) (now (out .exit)) at r (printed (gap w e ++ mark letters e)) ⌝ }
+fn put_edit(out: &mut [u8], at: usize, alphabet: u32, w: Walk, e: Edit) -> usize
+    requires { ⌜ (w .next ≤ e .offset) × (at + 2 * length (printed (gap w e ++ mark alphabet e)) ≤ length (now out)) ⌝ }
+    ensures { λ r. ⌜ Laid (now (out .entry)) (now (out .exit)) at r (printed (gap w e ++ mark alphabet e)) ⌝ }
 {
     let next = put_gap(out, at, w, e);
-    put_mark(out, next, letters, e)
+    put_mark(out, next, alphabet, e)
 }
 
 // What stands behind the last edit.
@@ -102,15 +102,15 @@ fn write_edits(
     from: usize,
     line: &[u8],
     class: u32,
-    letters: u32,
+    alphabet: u32,
     place: usize,
     count: u32,
     mapped: u32,
 ) -> usize
     requires { ⌜ (count ≤ mostEdits) × (place + count * widthOf class ≤ length (unhex (now line))) ⌝ }
-    requires { ⌜ Sound mapped (sizeOf letters) 0 (editsAt class letters (unhex (now line)) count place) ⌝ }
-    requires { ⌜ from + 2 * length (ecigarOf letters mapped (editsAt class letters (unhex (now line)) count place)) ≤ length (now out) ⌝ }
-    ensures { λ r. ⌜ Laid (now (out .entry)) (now (out .exit)) from r (ecigarOf letters mapped (editsAt class letters (unhex (now (line .entry))) count place)) ⌝ }
+    requires { ⌜ Sound mapped (sizeOf alphabet) 0 (editsAt class alphabet (unhex (now line)) count place) ⌝ }
+    requires { ⌜ from + 2 * length (ecigarOf alphabet mapped (editsAt class alphabet (unhex (now line)) count place)) ≤ length (now out) ⌝ }
+    ensures { λ r. ⌜ Laid (now (out .entry)) (now (out .exit)) from r (ecigarOf alphabet mapped (editsAt class alphabet (unhex (now (line .entry))) count place)) ⌝ }
 {
     let step = width(class);
     let mut w = Walk::start();
@@ -118,8 +118,8 @@ fn write_edits(
     let mut at = place;
     let mut left = count;
     while 0 < left {
-        let e = edit_at(line, class, letters, at);
-        next = put_edit(out, next, letters, w, e);
+        let e = edit_at(line, class, alphabet, at);
+        next = put_edit(out, next, alphabet, w, e);
         w = advance(w, e);
         at += step;
         left -= 1;
@@ -133,13 +133,13 @@ pub fn write(
     at: usize,
     line: &[u8],
     class: u32,
-    letters: u32,
+    alphabet: u32,
     segment: Segment,
 ) -> usize
     requires { ⌜ (segment .edits ≤ mostEdits) × (segment .«edits_at» + segment .edits * widthOf class ≤ length (unhex (now line))) ⌝ }
-    requires { ⌜ Sound (mappedLength (segment .length) (segment .clips)) (sizeOf letters) 0 (segmentEdits class letters (unhex (now line)) segment) ⌝ }
-    requires { ⌜ at + 2 * length (ecigarText class letters (unhex (now line)) segment) ≤ length (now out) ⌝ }
-    ensures { λ r. ⌜ Laid (now (out .entry)) (now (out .exit)) at r (ecigarText class letters (unhex (now (line .entry))) segment) ⌝ }
+    requires { ⌜ Sound (mappedLength (segment .length) (segment .clips)) (sizeOf alphabet) 0 (segmentEdits class alphabet (unhex (now line)) segment) ⌝ }
+    requires { ⌜ at + 2 * length (ecigarText class alphabet (unhex (now line)) segment) ≤ length (now out) ⌝ }
+    ensures { λ r. ⌜ Laid (now (out .entry)) (now (out .exit)) at r (ecigarText class alphabet (unhex (now (line .entry))) segment) ⌝ }
 {
     let clips = segment.clips;
     let mapped = mapped_length(segment.length, clips);
@@ -149,7 +149,7 @@ pub fn write(
         left,
         line,
         class,
-        letters,
+        alphabet,
         segment.edits_at,
         segment.edits,
         mapped,

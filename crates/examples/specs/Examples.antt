@@ -1,15 +1,15 @@
--- Document 01's small examples 1 to 12, as one table under one statement: `examples`. Each row is a record call, and what the document prints of its answer.
+-- Document 01's small examples 1 to 12, as one table under one statement, `Examples`; proofs/Examples shows it. Each row is a record call, and what the document prints of its answer.
 -- Assumes nothing.
-use Prim.Native.Nat.{ℕ, zero, suc, _+_}
+use Prim.Native.Nat.{ℕ, zero, suc, _+_, _-_}
 use Prim.Native.String.{String, len, charAt}
 use Prim.Native.Char.{code}
-use mathlib.Core.Path.{_≡_, refl}
+use mathlib.Core.Path.{_≡_}
 use mathlib.Core.List.{List, [], _∷_, _++_, map}
 use lib.ListN.{replicate, take, drop}
 use Rattle.refusal.specs.Numbers.{offsetOut}
 use Rattle.frame.specs.Line.{lineEnd, lineWithin}
 use Rattle.unit.specs.Unit.{classP, classN, classM, classI, classU, leastSegments, unitRefusal}
-use Rattle.unit.specs.State.{freshState, mostSymbols, within}
+use Rattle.unit.specs.State.{freshState, mostSymbols, within, tableLength}
 use Rattle.unit.specs.Listed.{Step, refused, accepted, leastListed, words, headOf}
 use Rattle.unit.specs.declared.Unit.{Unit}
 use Rattle.bases.specs.Bases.{pastEdit, editBases, basesFrom, refusalFrom, lettersAt, basesText}
@@ -66,7 +66,7 @@ reference = 0 ∷ 1 ∷ 2 ∷ 3 ∷ 0 ∷ 1 ∷ 2 ∷ 3 ∷ []
 
 -- subsequence 0 has the code 0, subsequence 1 the value 5, the others nothing
 abbrev symbols : List ℕ
-symbols = replicate mostSymbols 0 ++ (5 ∷ []) ++ replicate 7167 0
+symbols = replicate mostSymbols 0 ++ (5 ∷ []) ++ replicate (tableLength - mostSymbols - 1) 0
 
 abbrev counts : List ℕ
 counts = 1 ∷ 1 ∷ 0 ∷ 0 ∷ 0 ∷ 0 ∷ 0 ∷ 0 ∷ []
@@ -132,6 +132,5 @@ table =
     ∷ []
 
 -- every row: what the definitions answer is what the document prints
-pub examples : map (λ (x : Example). x .found) table ≡ map (λ (x : Example). x .expected) table
-unfolding pastEdit editBases basesFrom refusalFrom lettersAt basesText isLent baseAt baseRefusal matchedBases matchRefusal widthOf editAt editsAt nextOffset deletionRefusal editRefusal takenFrom editsRefusal answered editsChecked checkOf joinsRun past matches closed gap mark ending operationsFrom clip segmentOperations ecigarText printed decimalF decimal bigAt fieldAt isDigit nib unhex allDigits be lineWithin decode recordSteps pairOf same-rec table60 takeOf countsOut within stateRefusal lentRefusal firstPart secondPart fromSecond fromFirst fromPos fromKind planOf linkBytes listedBytes stepOf fromEdits fromSoft fromClips fromRcomp alignedAt lengthAt rcompAt countAt clipsIn clipsAt placed placedAt plainAt alignedBytes unalignedBytes partBytes placeRefusal symbolsFrom fromLength unalignedAt words headOf sizeOf letterOf codeOfN leastSegments unitRefusal finishedPlan talliedSegment
-examples = refl
+abbrev pub Examples : Type 0
+Examples = map (λ (x : Example). x .found) table ≡ map (λ (x : Example). x .expected) table

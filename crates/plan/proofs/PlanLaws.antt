@@ -34,7 +34,7 @@ use Rattle.segment.specs.declared.part.PartRead.{PartRead}
 use Rattle.segment.specs.declared.part.PartRead.the-variants as part
 use Rattle.segment.proofs.PartLaws.{Taken, placed-taken, plain-taken}
 use Rattle.segment.proofs.StandardLaws.{Accepted, placed-accepted, placed-aligned, plain-unaligned}
-use Rattle.plan.specs.Plan.{plan, finished, firstPart, secondPart, afterSecond, fromSecond, afterFirst, fromFirst, fromPos, refusedReading, settled, afterAnswer, fromKind, planOf, ReadyPlan}
+use Rattle.plan.specs.Plan.{plan, finished, firstPart, secondPart, afterSecond, fromSecond, afterFirst, fromFirst, fromPos, refusedReading, settled, afterAnswer, fromKind, planOf, ReadyPlan, afterPart}
 use Rattle.plan.specs.Said.{Second, alone, behind, Blocks, PlanTaken}
 use Rattle.plan.specs.declared.read.Plan.{Plan}
 use Rattle.plan.specs.declared.read.Planned.{Planned}
@@ -67,7 +67,7 @@ module _ (u : Unit) (reference frame : List ℕ) (p : Plan) where
         rw i record { link-is = refl; pos-is = refl; blocks = record { next = next; first = f; second = alone (ltb-true _ _ t) refl } })
         (λ t. by (ltb-false _ _ t) (secondPart u reference frame link pos (next .at)) refl (simp t at q))
       where
-        by : mostSegments ≤ link .segments → (x : PartRead) → secondPart u reference frame link pos (next .at) ≡ x → afterSecond frame link pos first x ≡ Whole p → BlocksOf u reference frame link pos at p
+        by : mostSegments ≤ link .segments → (x : PartRead) → secondPart u reference frame link pos (next .at) ≡ x → afterPart x (λ second behind. finished frame (plan link pos first second) behind) ≡ Whole p → BlocksOf u reference frame link pos at p
         by two (part.Refused n) e z = absurd (never z)
         by two (part.Whole second last) e z =
             let i : p ≡ plan link pos first second = finished-is _ (last .at) z in
@@ -77,7 +77,7 @@ module _ (u : Unit) (reference frame : List ℕ) (p : Plan) where
     unfolding fromFirst
     first-blocks at q = by (firstPart u reference frame pos at) refl q
       where
-        by : (x : PartRead) → firstPart u reference frame pos at ≡ x → afterFirst u reference frame link pos x ≡ Whole p → BlocksOf u reference frame link pos at p
+        by : (x : PartRead) → firstPart u reference frame pos at ≡ x → afterPart x (λ first behind. fromSecond u reference frame link pos first behind) ≡ Whole p → BlocksOf u reference frame link pos at p
         by (part.Refused n) e z = absurd (never z)
         by (part.Whole first next) e z = second-blocks first at next e z
 

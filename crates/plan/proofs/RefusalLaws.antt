@@ -56,7 +56,7 @@ use Rattle.segment.specs.declared.part.Part.the-variants.{Absent}
 use Rattle.segment.specs.declared.part.PartRead.{PartRead}
 use Rattle.segment.specs.declared.part.PartRead.the-variants as part
 use Rattle.plan.specs.Lent.{countsOut, stateRefusal, lentRefusal}
-use Rattle.plan.specs.Plan.{plan, finished, firstPart, secondPart, afterSecond, fromSecond, afterFirst, fromFirst, fromPos, settled, afterAnswer, fromKind, planOf}
+use Rattle.plan.specs.Plan.{plan, finished, firstPart, secondPart, afterSecond, fromSecond, afterFirst, fromFirst, fromPos, settled, afterAnswer, fromKind, planOf, afterPart}
 use Rattle.plan.specs.declared.read.Plan.{Plan}
 use Rattle.plan.specs.declared.read.Planned.{Planned}
 use Rattle.plan.specs.declared.read.Planned.the-variants.{Whole, Refused}
@@ -289,7 +289,7 @@ module _ (u : UnitOf) (reference frame : List ℕ) where
     from-second-early pos first at =
         one-of EarlyPlan (ltb (link .segments) mostSegments) _ _ (finished-early (plan link pos first Absent) at) (by (secondPart u reference frame link pos at) (second-early link pos at))
       where
-        by : (x : PartRead) → EarlyPart x → EarlyPlan (afterSecond frame link pos first x)
+        by : (x : PartRead) → EarlyPart x → EarlyPlan (afterPart x (λ second behind. finished frame (plan link pos first second) behind))
         by (part.Whole second next) h = finished-early (plan link pos first second) (next .at)
         by (part.Refused n) h = h
 
@@ -297,7 +297,7 @@ module _ (u : UnitOf) (reference frame : List ℕ) where
     unfolding fromFirst
     from-first-early pos at = by (firstPart u reference frame pos at) (first-early pos at)
       where
-        by : (x : PartRead) → EarlyPart x → EarlyPlan (afterFirst u reference frame link pos x)
+        by : (x : PartRead) → EarlyPart x → EarlyPlan (afterPart x (λ first behind. fromSecond u reference frame link pos first behind))
         by (part.Whole first next) h = from-second-early pos first (next .at)
         by (part.Refused n) h = h
 

@@ -13,7 +13,7 @@ use Rattle.pairing.specs.declared.Paired.{Paired}
 use Rattle.segment.specs.declared.part.Part.{Part}
 use Rattle.segment.specs.declared.part.PartRead.{PartRead}
 use Rattle.segment.specs.declared.part.PartRead.the-variants as part
-use Rattle.plan.specs.Plan.{plan, finished, afterSecond, fromSecond, afterFirst, fromPos, refusedReading, settled, afterPair}
+use Rattle.plan.specs.Plan.{afterPart, fromPos, refusedReading, settled, afterPair}
 use Rattle.plan.specs.declared.read.Plan.{Plan}
 use Rattle.plan.specs.declared.read.Planned.{Planned}
 use Rattle.plan.specs.declared.read.Planned.the-variants.{Whole, Refused}
@@ -21,19 +21,12 @@ use Rattle.plan.specs.declared.read.Reading.{Reading}
 
 -- ---- a segment's reading
 
-module _ (x : Planned) (u : Unit) (reference frame : List ℕ) (link : Link) (pos : ℕ) (answer spec : PartRead) where
-  pub first-read : (first : Part) (next : Cursor) → answer ≡ spec → answer ≡ part.Whole first next → x ≡ fromSecond u reference frame link pos first (next .at) → x ≡ afterFirst u reference frame link pos spec
-  first-read first next e h k = rw (← e, h) k
+module _ (x : Planned) (answer spec : PartRead) (more : Part → ℕ → Planned) where
+  pub part-read : (p : Part) (next : Cursor) → answer ≡ spec → answer ≡ part.Whole p next → x ≡ more p (next .at) → x ≡ afterPart spec more
+  part-read p next e h k = rw (← e, h) k
 
-  pub first-refused : (n : ℕ) → answer ≡ spec → answer ≡ part.Refused n → x ≡ Refused n → x ≡ afterFirst u reference frame link pos spec
-  first-refused n e h k = rw (← e, h) k
-
-module _ (x : Planned) (frame : List ℕ) (link : Link) (pos : ℕ) (first : Part) (answer spec : PartRead) where
-  pub second-read : (second : Part) (next : Cursor) → answer ≡ spec → answer ≡ part.Whole second next → x ≡ finished frame (plan link pos first second) (next .at) → x ≡ afterSecond frame link pos first spec
-  second-read second next e h k = rw (← e, h) k
-
-  pub second-refused : (n : ℕ) → answer ≡ spec → answer ≡ part.Refused n → x ≡ Refused n → x ≡ afterSecond frame link pos first spec
-  second-refused n e h k = rw (← e, h) k
+  pub part-refused : (n : ℕ) → answer ≡ spec → answer ≡ part.Refused n → x ≡ Refused n → x ≡ afterPart spec more
+  part-refused n e h k = rw (← e, h) k
 
 -- ---- a record's reading, and the state after it
 

@@ -30,7 +30,7 @@ pub fn refusal_of(
     ensures { λ r. ⌜ r ≡ lentRefusal unit (length (now (reference .entry))) (length (now (symbols .entry))) (now (counts .entry)) state ⌝ }
 {
     let outside = unit.refusal();
-    if outside != 0 {
+    if outside != refusal::FINE {
         return outside;
     }
     if Unit::REFERENCE < reference.len() {
@@ -58,5 +58,5 @@ fn state_refusal(unit: Unit, counts: &[u32], state: State) -> u32
     if !state.within(counts) {
         return refusal::MISSING;
     }
-    0
+    refusal::FINE
 }

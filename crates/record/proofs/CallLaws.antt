@@ -20,7 +20,7 @@ use Rattle.plan.specs.declared.read.Planned.the-variants.{Whole}
 use Rattle.plan.specs.declared.read.Reading.{Reading}
 use Rattle.plan.proofs.PlanLaws.{plan-ready}
 use Rattle.plan.proofs.StateLaws.{lent-taken}
-use Rattle.record.specs.Record.{answered, withRoom, stepOf, recordOf}
+use Rattle.record.specs.Record.{stepBy, withRoom, stepOf, recordOf}
 
 -- ---- which test decides
 
@@ -32,7 +32,7 @@ module _ (u : Unit) (reference symbols counts : List ℕ) (state : State) {n : �
 
   -- it is accepted: the line and the room decide
   pub lent-accepted : (line : List ℕ) (room : ℕ) {r : Reading} → n ≡ fine → r ≡ planOf u reference symbols counts state line
-      → recordOf u reference symbols counts state line room ≡ withRoom room (answered u reference (unhex line) state r)
+      → recordOf u reference symbols counts state line room ≡ withRoom room (stepBy u reference (unhex line) state (r .state) (r .planned))
   unfolding recordOf stepOf
   lent-accepted line room h f = rw (← e, ← f) (simp (eq-eqb n fine h))
 

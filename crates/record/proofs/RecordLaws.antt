@@ -37,7 +37,7 @@ use Rattle.plan.specs.declared.read.Planned.the-variants.{Whole, Refused}
 use Rattle.plan.proofs.PlanLaws.{plan-taken, first-aligned, second-aligned}
 use Rattle.plan.proofs.RefusalLaws.{EarlyPlan, lent-early, plan-early}
 use Rattle.plan.proofs.StateLaws.{LentTaken, lent-taken}
-use Rattle.record.specs.Record.{linkBytes, listedBytes, after, planned, stepOf, withRoom, recordOf}
+use Rattle.record.specs.Record.{linkBytes, listedBytes, after, stepBy, stepOf, withRoom, recordOf}
 use Rattle.record.proofs.BytesLaws.{tailBytes, listed-head, bytes-listed, length-listed, length-head, length-link}
 
 -- exactly so many bytes stand before the segments
@@ -58,7 +58,7 @@ module _ (u : UnitOf) (reference symbols counts : List ℕ) (state : State) (lin
       (by (planOf u reference symbols counts state line .planned) (plan-early u reference symbols counts state line))
       (lent-early u (length reference) (length symbols) counts state)
     where
-      by : (x : Planned) → EarlyPlan x → EarlyStep (planned u reference (unhex line) state (planOf u reference symbols counts state line .state) x)
+      by : (x : Planned) → EarlyPlan x → EarlyStep (stepBy u reference (unhex line) state (planOf u reference symbols counts state line .state) x)
       by (Whole p) h = tt
       by (Refused n) h = h
 
@@ -101,7 +101,7 @@ module _ (u : UnitOf) (reference symbols counts : List ℕ) (state : State) (lin
       (λ t. absurd (let e = simp t at q in let z : _≡_ {A = ℕ} 0 1 = cc in omega arith))
     where
       by : LentTaken u (length reference) (length symbols) counts state → (x : Planned) → planOf u reference symbols counts state line .planned ≡ x
-          → planned u reference (unhex line) state (planOf u reference symbols counts state line .state) x ≡ accepted frame next → StepTaken u reference symbols counts state line frame next
+          → stepBy u reference (unhex line) state (planOf u reference symbols counts state line .state) x ≡ accepted frame next → StepTaken u reference symbols counts state line frame next
       by l (Refused n) e z = absurd (let y : _≡_ {A = ℕ} 0 1 = cc in omega arith)
       by l (Whole p) e z =
           let moved = planOf u reference symbols counts state line .state in

@@ -8,6 +8,7 @@ use lib.ListN.{length, drop}
 use Rattle.refusal.specs.Numbers.{fine, noRoom}
 use Rattle.frame.specs.Hex.{hexOf, unhex, be}
 use Rattle.frame.specs.Line.{lineEnd}
+use Rattle.frame.specs.Steps.{unless}
 use Rattle.unit.specs.Listed.{headOf, Step, refused, accepted}
 use Rattle.unit.specs.declared.Unit.{Unit}
 use Rattle.unit.specs.declared.State.{State}
@@ -15,23 +16,24 @@ use Rattle.pairing.specs.Table60.{mateSeqId, mappingPos}
 use Rattle.pairing.specs.declared.Link.{Link}
 use Rattle.segment.specs.Part.{partBytes}
 use Rattle.plan.specs.Lent.{lentRefusal}
-use Rattle.plan.specs.Plan.{planOf}
+use Rattle.plan.specs.Plan.{plannedNumber, planOf}
 use Rattle.plan.specs.declared.read.Plan.{Plan}
 use Rattle.plan.specs.declared.read.Planned.{Planned}
 use Rattle.plan.specs.declared.read.Planned.the-variants.{Whole, Refused}
 use Rattle.plan.specs.declared.read.Reading.{Reading}
+use Rattle.record.specs.declared.Answer.{Answer}
 use Rattle.record.specs.declared.Answer.the-variants as answer
 use Rattle.record.specs.declared.Recorded.{Recorded}
 
 -- ---- the 04 line
 
 -- read1First, splitMate, segments in this record (a byte each), mate sequence id u16, mate position u32
-unfoldable pub linkBytes : ℕ → ℕ → Link → List ℕ
+unfoldable pub linkBytes : (sequence pos : ℕ) → Link → List ℕ
 linkBytes sequence pos link =
     be 1 (link .first) ++ be 1 (link .split) ++ be 1 (link .segments) ++ be 2 (mateSeqId sequence (link .mate)) ++ be 4 (mappingPos pos (link .mate))
 
 -- kind, record number and the indexes after this record; the link; then each segment
-unfoldable pub listedBytes : Unit → List ℕ → List ℕ → ℕ → State → Plan → List ℕ
+unfoldable pub listedBytes : Unit → (reference frame : List ℕ) (number : ℕ) (next : State) → Plan → List ℕ
 listedBytes u reference frame number next p =
     headOf number next
     ++ linkBytes (u .sequence) (p .pos) (p .link)
@@ -41,48 +43,52 @@ listedBytes u reference frame number next p =
 -- ---- the call
 
 -- "The state after a record is the next record number and the eight indexes"
-abbrev pub after : State → State → State
+abbrev pub after : (state moved : State) → State
 after state moved = record { number = state .number + 1; index = moved .index }
 
--- what the line said, as an answer
-abbrev pub planned : Unit → List ℕ → List ℕ → State → State → Planned → Step
-planned u reference frame state moved (Refused n) = refused n
-planned u reference frame state moved (Whole p) = accepted (listedBytes u reference frame (state .number) (after state moved) p) (after state moved)
-
-abbrev pub answered : Unit → List ℕ → List ℕ → State → Reading → Step
-answered u reference frame state r = planned u reference frame state (r .state) (r .planned)
+-- by what the line says: its refusal, or the 04 line and the next state
+abbrev pub stepBy : Unit → (reference frame : List ℕ) (state moved : State) → Planned → Step
+stepBy u reference frame state moved (Refused n) = refused (plannedNumber (Refused n))
+stepBy u reference frame state moved (Whole p) = accepted (listedBytes u reference frame (state .number) (after state moved) p) (after state moved)
 
 -- what is lent (3, 2, 4, 14), then what the line says (1 to 13): all but the room
-unfoldable pub stepOf : Unit → List ℕ → List ℕ → List ℕ → State → List ℕ → Step
+unfoldable pub stepOf : Unit → (reference symbols counts : List ℕ) → State → (line : List ℕ) → Step
 stepOf u reference symbols counts state line =
-    cond (eqb (lentRefusal u (length reference) (length symbols) counts state) fine)
-    (answered u reference (unhex line) state (planOf u reference symbols counts state line))
-    (refused (lentRefusal u (length reference) (length symbols) counts state))
+    let n : ℕ = lentRefusal u (length reference) (length symbols) counts state in
+    let r : Reading = planOf u reference symbols counts state line in
+    unless (eqb n fine) (refused n)
+    (stepBy u reference (unhex line) state (r .state) (r .planned))
 
 -- last 17: the line with its 0A wants one byte more than its digits
-abbrev pub withRoom : ℕ → Step → Step
+abbrev pub withRoom : (room : ℕ) → Step → Step
 withRoom room (refused n) = refused n
-withRoom room (accepted frame next) = cond (ltb (2 * length frame) room) (accepted frame next) (refused noRoom)
+withRoom room (accepted frame next) = unless (ltb (2 * length frame) room) (refused noRoom) (accepted frame next)
 
 -- THE RECORD CALL: unit, reference, symbols and their counts, state, line with its 0A, and how much output is lent
-unfoldable pub recordOf : Unit → List ℕ → List ℕ → List ℕ → State → List ℕ → ℕ → Step
+unfoldable pub recordOf : Unit → (reference symbols counts : List ℕ) → State → (line : List ℕ) (room : ℕ) → Step
 recordOf u reference symbols counts state line room = withRoom room (stepOf u reference symbols counts state line)
 
 -- ---- what the caller sees
 
+-- document 01's number of an answer
+abbrev pub answerNumber : Answer → ℕ
+answerNumber (answer.Listed bytes) = fine
+answerNumber (answer.Refused n) = n
+
 -- the refusal number and "the state it was given"
-abbrev pub refusedBy : ℕ → State → Recorded
+abbrev pub refusedBy : (n : ℕ) → State → Recorded
 refusedBy n state = record { answer = answer.Refused n; state = state }
 
 -- how many bytes were written, and the next state
-abbrev pub listedBy : ℕ → State → Recorded
+abbrev pub listedBy : (bytes : ℕ) (next : State) → Recorded
 listedBy bytes next = record { answer = answer.Listed bytes; state = next }
 
+-- the answer and the state, by the step: the 0A is one of the bytes
 abbrev pub recorded : State → Step → Recorded
 recorded state (refused n) = refusedBy n state
 recorded state (accepted frame next) = listedBy (2 * length frame + 1) next
 
 -- "An accepted call writes its line at the front and nothing behind it"; after a refusal "no lent byte differs"
-abbrev pub output : List ℕ → Step → List ℕ
+abbrev pub output : (out : List ℕ) → Step → List ℕ
 output out (refused n) = out
 output out (accepted frame next) = hexOf frame ++ lineEnd ∷ drop (suc (2 * length frame)) out

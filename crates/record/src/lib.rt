@@ -14,7 +14,7 @@ ghost use Rattle.frame.specs.Hex.{unhex};
 ghost use Rattle.unit.specs.Unit.{mostRecords};
 ghost use Rattle.plan.specs.Plan.{ReadyPlan};
 ghost use Rattle.plan.specs.declared.read.Planned.the-variants.{Whole};
-ghost use Rattle.record.specs.Record.{recordOf, refusedBy, recorded, output, withRoom, planned};
+ghost use Rattle.record.specs.Record.{recordOf, refusedBy, recorded, output, withRoom, stepBy};
 
 mod write;
 
@@ -52,8 +52,8 @@ fn settle(
 ) -> Recorded
     requires { ⌜ ReadyPlan unit (now reference) (unhex (now line)) p ⌝ }
     requires { ⌜ state .number < mostRecords ⌝ }
-    ensures { λ r. ⌜ r ≡ recorded state (withRoom (length (now (out .entry))) (planned unit (now (reference .entry)) (unhex (now (line .entry))) state moved (Whole p))) ⌝ }
-    ensures { λ _. ⌜ now (out .exit) ≡ output (now (out .entry)) (withRoom (length (now (out .entry))) (planned unit (now (reference .entry)) (unhex (now (line .entry))) state moved (Whole p))) ⌝ }
+    ensures { λ r. ⌜ r ≡ recorded state (withRoom (length (now (out .entry))) (stepBy unit (now (reference .entry)) (unhex (now (line .entry))) state moved (Whole p))) ⌝ }
+    ensures { λ _. ⌜ now (out .exit) ≡ output (now (out .entry)) (withRoom (length (now (out .entry))) (stepBy unit (now (reference .entry)) (unhex (now (line .entry))) state moved (Whole p))) ⌝ }
 {
     let first = p.first;
     let second = p.second;
@@ -85,7 +85,7 @@ pub fn record(
     ensures { λ _. ⌜ now (out .exit) ≡ output (now (out .entry)) (recordOf unit (now (reference .entry)) (now (symbols .entry)) (now (counts .entry)) state (now (line .entry)) (length (now (out .entry)))) ⌝ }
 {
     let n = lent::refusal_of(unit, reference, symbols, counts, state);
-    if n != 0 {
+    if n != refusal::FINE {
         return refused(n, state);
     }
     let reading = read::read(unit, reference, symbols, counts, state, line);

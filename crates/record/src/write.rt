@@ -2,12 +2,12 @@
 use pairing::Link;
 use plan::read::Plan;
 use segment::write as segment_write;
-use writing::lay::put_u8;
-use writing::lay::put_u16;
-use writing::lay::put_u32;
 use unit::State;
 use unit::Unit;
 use unit::kind::Kind;
+use writing::lay::put_u8;
+use writing::lay::put_u16;
+use writing::lay::put_u32;
 ghost use Prim.Native.Nat.{_+_, _*_, _≤_};
 ghost use lib.ListN.{length};
 ghost use Rattle.frame.specs.Hex.{unhex};
@@ -41,6 +41,9 @@ fn put_head(out: &mut [u8], number: u32, next: State) -> usize
     put_indexes(out, b, index)
 }
 
+// The first number that is too wide for four bytes. A position is below it; of a wider sum, which no accepted record has, the low four bytes are laid.
+const PAST_U32: u64 = 4_294_967_296;
+
 // What the pair symbols say: read1First, splitMate, the record's segments, and the mate's sequence id and position.
 fn put_link(out: &mut [u8], at: usize, unit: Unit, pos: u32, link: Link) -> usize
     requires { ⌜ at + 2 * length (linkBytes (unit .sequence) pos link) ≤ length (now out) ⌝ }
@@ -52,11 +55,8 @@ fn put_link(out: &mut [u8], at: usize, unit: Unit, pos: u32, link: Link) -> usiz
     let b = put_u8(out, a, link.split);
     let c = put_u8(out, b, link.segments);
     let d = put_u16(out, c, sequence);
-    put_u32(out, d, (position % HALF) as u32)
+    put_u32(out, d, (position % PAST_U32) as u32)
 }
-
-// A position is below this; of a wider sum, which no accepted record has, the low four bytes are laid.
-const HALF: u64 = 4_294_967_296;
 
 // The bytes of an 04 line; the rest of the line is lent on for the second segment.
 pub fn write(

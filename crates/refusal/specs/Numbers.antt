@@ -1,10 +1,16 @@
 -- Document 01's table of refusal numbers, row by row.
 -- Assumes nothing.
+use mathlib.Core.Bool.{cond}
 use Prim.Native.Nat.{ℕ}
+use lib.Dec.{eqb}
 
 -- nothing is refused
 abbrev pub fine : ℕ
 fine = 0
+
+-- the first of two refusals, where there is one
+abbrev pub firstOf : (one other : ℕ) → ℕ
+firstOf one other = cond (eqb one fine) other one
 
 -- other digits, odd count, too long a line, or a last line without 0A
 abbrev pub malformed : ℕ

@@ -53,7 +53,7 @@ pub length-got : (frame : List ℕ) (at v : ℕ) (c : Cursor) → lengthAt frame
 unfolding lengthAt
 length-got frame at v c q =
     let never : (n : ℕ) → field.Refused n ≡ field.Value v c → ⊥ = λ n e. (let z : _≡_ {A = ℕ} 0 1 = cc in omega arith) in
-    let f = past-field _ (never misframed) 2 frame at lengthIn q in
+    let f = past-field _ (never misframed) 2 frame at (λ v c. lengthIn v (c .at)) q in
     let a = past-refusal _ (never 8) (bigAt 2 frame at) 1 _ (f .rest) in
     let b = past-refusal _ (never 8) mostRead (bigAt 2 frame at) _ (a .1) in
     let e : v ≡ bigAt 2 frame at = cc (b .1) in
@@ -64,7 +64,7 @@ pub rcomp-got : (frame : List ℕ) (at v : ℕ) (c : Cursor) → rcompAt frame a
 unfolding rcompAt
 rcomp-got frame at v c q =
     let never : (n : ℕ) → field.Refused n ≡ field.Value v c → ⊥ = λ n e. (let z : _≡_ {A = ℕ} 0 1 = cc in omega arith) in
-    let f = past-field _ (never misframed) 1 frame at rcompIn q in
+    let f = past-field _ (never misframed) 1 frame at (λ v c. rcompIn v (c .at)) q in
     let a = past-refusal _ (never 11) 1 (bigAt 1 frame at) _ (f .rest) in
     let e : v ≡ bigAt 1 frame at = cc (a .1) in
     let p : c .at ≡ at + 1 = cc (a .1) in
@@ -74,7 +74,7 @@ pub count-got : (frame : List ℕ) (at v : ℕ) (c : Cursor) → countAt frame a
 unfolding countAt
 count-got frame at v c q =
     let never : (n : ℕ) → field.Refused n ≡ field.Value v c → ⊥ = λ n e. (let z : _≡_ {A = ℕ} 0 1 = cc in omega arith) in
-    let f = past-field _ (never misframed) 2 frame at countIn q in
+    let f = past-field _ (never misframed) 2 frame at (λ v c. countIn v (c .at)) q in
     let a = past-refusal _ (never 11) mostEdits (bigAt 2 frame at) _ (f .rest) in
     let e : v ≡ bigAt 2 frame at = cc (a .1) in
     let p : c .at ≡ at + 2 = cc (a .1) in

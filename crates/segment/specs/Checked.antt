@@ -4,35 +4,49 @@ use Prim.Native.Nat.{ℕ}
 use mathlib.Core.Bool.{cond}
 use mathlib.Core.List.{List}
 use lib.Dec.{ltb}
-use Rattle.refusal.specs.Numbers.{misframed, lengthOut, fieldOut}
-use Rattle.frame.specs.Field.{fieldAt, afterField}
+use Rattle.refusal.specs.Numbers.{fine, lengthOut, fieldOut}
+use Rattle.frame.specs.Field.{fieldNumber, withField}
+use Rattle.frame.specs.declared.field.Field.the-variants as field
 use Rattle.frame.specs.declared.field.Cursor.{Cursor}
 use Rattle.block.specs.Segment.{mostRead, mostEdits}
 use Rattle.segment.specs.declared.checked.Checked.{Checked}
 use Rattle.segment.specs.declared.checked.Checked.the-variants.{Value, Refused}
 
--- read length u16: 1 to 1,000, else 8
-abbrev pub lengthIn : ℕ → Cursor → Checked
-lengthIn v next = cond (ltb v 1) (Refused lengthOut) (cond (ltb mostRead v) (Refused lengthOut) (Value v next))
+-- document 01's number of an answer
+abbrev pub checkedNumber : Checked → ℕ
+checkedNumber (Value v next) = fine
+checkedNumber (Refused n) = n
 
-unfoldable pub lengthAt : List ℕ → ℕ → Checked
-lengthAt frame at = afterField (Refused misframed) (fieldAt 2 frame at) lengthIn
+-- a value, and the place behind its field
+abbrev pub valueBefore : (v next : ℕ) → Checked
+valueBefore v next = Value v (record { at = next })
+
+-- the frame ends before the field is complete
+abbrev pub short : Checked
+short = Refused (fieldNumber field.Short)
+
+-- read length u16: 1 to 1,000, else 8
+abbrev pub lengthIn : (v next : ℕ) → Checked
+lengthIn v next = cond (ltb v 1) (Refused lengthOut) (cond (ltb mostRead v) (Refused lengthOut) (valueBefore v next))
+
+unfoldable pub lengthAt : (frame : List ℕ) (at : ℕ) → Checked
+lengthAt frame at = withField short 2 frame at lengthIn
 
 -- rcomp, a byte: 0 or 1, else 11
-abbrev pub rcompIn : ℕ → Cursor → Checked
-rcompIn v next = cond (ltb 1 v) (Refused fieldOut) (Value v next)
+abbrev pub rcompIn : (v next : ℕ) → Checked
+rcompIn v next = cond (ltb 1 v) (Refused fieldOut) (valueBefore v next)
 
-unfoldable pub rcompAt : List ℕ → ℕ → Checked
-rcompAt frame at = afterField (Refused misframed) (fieldAt 1 frame at) rcompIn
+unfoldable pub rcompAt : (frame : List ℕ) (at : ℕ) → Checked
+rcompAt frame at = withField short 1 frame at rcompIn
 
 -- edit count u16: 0 to 1,000, else 11
-abbrev pub countIn : ℕ → Cursor → Checked
-countIn v next = cond (ltb mostEdits v) (Refused fieldOut) (Value v next)
+abbrev pub countIn : (v next : ℕ) → Checked
+countIn v next = cond (ltb mostEdits v) (Refused fieldOut) (valueBefore v next)
 
-unfoldable pub countAt : List ℕ → ℕ → Checked
-countAt frame at = afterField (Refused misframed) (fieldAt 2 frame at) countIn
+unfoldable pub countAt : (frame : List ℕ) (at : ℕ) → Checked
+countAt frame at = withField short 2 frame at countIn
 
 -- a field that was checked, and what follows where it is accepted
 abbrev pub afterChecked {ℓ} : {X : Type ℓ} → (ℕ → X) → Checked → (ℕ → Cursor → X) → X
 afterChecked refused (Value v next) f = f v next
-afterChecked refused (Refused n) f = refused n
+afterChecked refused (Refused n) f = refused (checkedNumber (Refused n))

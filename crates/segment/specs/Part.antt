@@ -1,7 +1,6 @@
 -- A segment of a record: what is refused of it, and the bytes that list it (document 01, The listing and Order).
 -- Assumes nothing.
 use Prim.Native.Nat.{ℕ, _+_}
-use mathlib.Core.Path.{_≡_}
 use mathlib.Core.Bool.{cond}
 use mathlib.Core.List.{List, [], _++_}
 use lib.Dec.{eqb}
@@ -13,8 +12,8 @@ use Rattle.block.specs.declared.Segment.{Segment}
 use Rattle.block.specs.Segment.{mostRead, mostEcigar, mappedLength}
 use Rattle.ecigar.specs.Ecigar.{ecigarText}
 use Rattle.bases.specs.Bases.{referenceRefusal, basesText, lettersAt}
-use Rattle.segment.specs.Aligned.{alignedAt}
-use Rattle.segment.specs.Unaligned.{unalignedAt}
+use Rattle.segment.specs.Aligned.{alignedAt, alignedNumber}
+use Rattle.segment.specs.Unaligned.{unalignedAt, unalignedNumber}
 use Rattle.segment.specs.Place.{placeRefusal}
 use Rattle.segment.specs.declared.aligned.Aligned.{Aligned as AlignedOf}
 use Rattle.segment.specs.declared.aligned.AlignedBlock.{AlignedBlock}
@@ -30,44 +29,51 @@ use Rattle.segment.specs.declared.part.PartRead.the-variants.{Whole, Ref
 
 -- ---- what is refused
 
+-- document 01's number of an answer
+abbrev pub partNumber : PartRead → ℕ
+partNumber (Whole p next) = fine
+partNumber (Refused n) = n
+
 -- refused by a number, unless it is 0
-abbrev pub unlessRefused : ℕ → PartRead → PartRead
+abbrev pub unlessRefused : (number : ℕ) → PartRead → PartRead
 unlessRefused number go = cond (eqb number fine) go (Refused number)
 
 -- refusal 10 for the reference, under the matches of a segment
-abbrev pub underMatches : Unit → List ℕ → List ℕ → ℕ → Segment → ℕ
+abbrev pub underMatches : Unit → (reference frame : List ℕ) (position : ℕ) → Segment → ℕ
 underMatches u reference frame position s =
     referenceRefusal (u .class) (u .alphabet) frame reference (u .first) position (mappedLength (s .length) (s .clips)) (s .edits) (s .«edits_at»)
 
-abbrev pub placedPart : ℕ → AlignedOf → Part
+-- what the record has of it
+abbrev pub placedPart : (position : ℕ) → AlignedOf → Part
 placedPart position a = Aligned record { segment = a .segment; position = position; text = a .text }
 
 -- after each aligned segment 13, then 10 for the reference
-unfoldable pub placed : Unit → List ℕ → List ℕ → ℕ → AlignedOf → PartRead
+unfoldable pub placed : Unit → (reference frame : List ℕ) (position : ℕ) → AlignedOf → PartRead
 placed u reference frame position a =
     unlessRefused (placeRefusal (u .start) (u .end) position (a .taken))
     (unlessRefused (underMatches u reference frame position (a .segment)) (Whole (placedPart position a) (a .next)))
 
-abbrev pub afterBlock : Unit → List ℕ → List ℕ → ℕ → AlignedBlock → PartRead
-afterBlock u reference frame position (aligned.Refused n) = Refused n
+-- a block's refusal is the segment's
+abbrev pub afterBlock : Unit → (reference frame : List ℕ) (position : ℕ) → AlignedBlock → PartRead
+afterBlock u reference frame position (aligned.Refused n) = Refused (alignedNumber (aligned.Refused n))
 afterBlock u reference frame position (aligned.Whole a) = placed u reference frame position a
 
 -- an aligned segment of the unit, whose block stands at a place of the frame
-unfoldable pub placedAt : Unit → List ℕ → List ℕ → ℕ → ℕ → PartRead
+unfoldable pub placedAt : Unit → (reference frame : List ℕ) (position at : ℕ) → PartRead
 placedAt u reference frame position at = afterBlock u reference frame position (alignedAt (u .class) (u .alphabet) frame at)
 
 abbrev pub afterPlain : UnalignedBlock → PartRead
-afterPlain (unaligned.Refused n) = Refused n
+afterPlain (unaligned.Refused n) = Refused (unalignedNumber (unaligned.Refused n))
 afterPlain (unaligned.Whole s) = Whole (Unaligned s) (s .next)
 
 -- an unaligned segment
-unfoldable pub plainAt : Unit → List ℕ → ℕ → PartRead
+unfoldable pub plainAt : Unit → (frame : List ℕ) (at : ℕ) → PartRead
 plainAt u frame at = afterPlain (unalignedAt (u .alphabet) frame at)
 
 -- ---- what lists it
 
--- position u32, rcomp, read length u16, bases as letters, E-CIGAR length u16, E-CIGAR as ASCII
-unfoldable pub alignedBytes : Unit → List ℕ → List ℕ → Placed → List ℕ
+-- position u32, rcomp, read length u16, bases as letters, E-CIGAR length u16, E-CIGAR as ASCII (Table 92's ecigarString: `listed-is-table92`)
+unfoldable pub alignedBytes : Unit → (reference frame : List ℕ) → Placed → List ℕ
 alignedBytes u reference frame p =
     be 4 (p .position)
     ++ be 1 (p .segment .rcomp)
@@ -77,11 +83,11 @@ alignedBytes u reference frame p =
     ++ ecigarText (u .class) (u .alphabet) frame (p .segment)
 
 -- an unaligned segment has position 0, rcomp 0 and E-CIGAR length 0
-unfoldable pub unalignedBytes : Unit → List ℕ → UnalignedOf → List ℕ
+unfoldable pub unalignedBytes : Unit → (frame : List ℕ) → UnalignedOf → List ℕ
 unalignedBytes u frame s =
     be 4 0 ++ be 1 0 ++ be 2 (s .length) ++ lettersAt (u .alphabet) frame (s .at) (s .length) ++ be 2 0
 
-unfoldable pub partBytes : Unit → List ℕ → List ℕ → Part → List ℕ
+unfoldable pub partBytes : Unit → (reference frame : List ℕ) → Part → List ℕ
 partBytes u reference frame (Aligned p) = alignedBytes u reference frame p
 partBytes u reference frame (Unaligned s) = unalignedBytes u frame s
 partBytes u reference frame Absent = []

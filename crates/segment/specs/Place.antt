@@ -6,7 +6,7 @@ use lib.Dec.{ltb}
 use Rattle.refusal.specs.Numbers.{fine, positionOut}
 
 -- position is from AU start to AU end, and position plus the number taken is at most AU end + 1
-unfoldable pub placeRefusal : ℕ → ℕ → ℕ → ℕ → ℕ
+unfoldable pub placeRefusal : (start end position taken : ℕ) → ℕ
 placeRefusal start end position taken =
     cond (ltb position start) positionOut
     (cond (ltb end position) positionOut

@@ -11,12 +11,13 @@ use Rattle.segment.specs.declared.checked.Checked.{Checked}
 use Rattle.segment.specs.declared.checked.Checked.the-variants.{Value, Refused}
 
 -- k symbols from a place on, of a run of `count`: each is there, else 2, and inside the alphabet, else 10
-unfoldable pub symbolsFrom : ℕ → List ℕ → ℕ → ℕ → ℕ → Checked
+unfoldable pub symbolsFrom : (alphabet : ℕ) (frame : List ℕ) (count k at : ℕ) → Checked
 symbolsFrom alphabet frame count zero at = Value count (record { at = at })
 symbolsFrom alphabet frame count (suc k) at =
     cond (leb (length frame) at) (Refused misframed)
     (cond (leb (sizeOf alphabet) (getD frame at 0)) (Refused symbolOut)
     (symbolsFrom alphabet frame count k (at + 1)))
 
-abbrev pub symbolsAt : ℕ → List ℕ → ℕ → ℕ → Checked
+-- a run of `count` symbols, from a place on
+abbrev pub symbolsAt : (alphabet : ℕ) (frame : List ℕ) (count at : ℕ) → Checked
 symbolsAt alphabet frame count at = symbolsFrom alphabet frame count count at

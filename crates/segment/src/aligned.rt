@@ -1,4 +1,4 @@
-// An aligned block: length, rcomp, clips, soft-clipped bases, edits; then its place in the unit and the reference under it.
+// An aligned block: length, rcomp, clips, soft-clipped bases, edits. Its place in the unit and the reference under it are looked at in part.rt.
 use crate::checked::Checked;
 use crate::checked::read_count;
 use crate::checked::read_length;
@@ -29,21 +29,21 @@ pub enum AlignedBlock {
 }
 
 // The fields of an aligned block, left to right.
-pub(crate) fn read_block(line: &[u8], class: u32, letters: u32, c: Cursor) -> AlignedBlock
-    ensures { λ r. ⌜ r ≡ alignedAt class letters (unhex (now (line .entry))) (c .at) ⌝ }
+pub(crate) fn read_block(line: &[u8], class: u32, alphabet: u32, c: Cursor) -> AlignedBlock
+    ensures { λ r. ⌜ r ≡ alignedAt class alphabet (unhex (now (line .entry))) (c .at) ⌝ }
 {
     match read_length(line, c) {
         Checked::Refused(n) => AlignedBlock::Refused(n),
-        Checked::Value(length, next) => from_rcomp(line, class, letters, length, next),
+        Checked::Value(length, next) => from_rcomp(line, class, alphabet, length, next),
     }
 }
 
-fn from_rcomp(line: &[u8], class: u32, letters: u32, length: u32, c: Cursor) -> AlignedBlock
-    ensures { λ r. ⌜ r ≡ fromRcomp class letters (unhex (now (line .entry))) length (c .at) ⌝ }
+fn from_rcomp(line: &[u8], class: u32, alphabet: u32, length: u32, c: Cursor) -> AlignedBlock
+    ensures { λ r. ⌜ r ≡ fromRcomp class alphabet (unhex (now (line .entry))) length (c .at) ⌝ }
 {
     match read_rcomp(line, c) {
         Checked::Refused(n) => AlignedBlock::Refused(n),
-        Checked::Value(rcomp, next) => from_clips(line, class, letters, length, rcomp, next),
+        Checked::Value(rcomp, next) => from_clips(line, class, alphabet, length, rcomp, next),
     }
 }
 
@@ -51,38 +51,47 @@ fn from_rcomp(line: &[u8], class: u32, letters: u32, length: u32, c: Cursor) -> 
 fn from_clips(
     line: &[u8],
     class: u32,
-    letters: u32,
+    alphabet: u32,
     length: u32,
     rcomp: u32,
     c: Cursor,
 ) -> AlignedBlock
-    ensures { λ r. ⌜ r ≡ fromClips class letters (unhex (now (line .entry))) length rcomp (c .at) ⌝ }
+    ensures { λ r. ⌜ r ≡ fromClips class alphabet (unhex (now (line .entry))) length rcomp (c .at) ⌝ }
 {
     let at = c.at;
     if class < Unit::I {
-        return from_edits(line, class, letters, length, rcomp, Clips::none(), at, c);
+        return from_edits(line, class, alphabet, length, rcomp, Clips::none(), at, c);
     }
     match read_clips(line, length, c) {
         Clipped::Refused(n) => AlignedBlock::Refused(n),
-        Clipped::Whole(clips, next) => from_soft(line, class, letters, length, rcomp, clips, next),
+        Clipped::Whole(clips, next) => from_soft(line, class, alphabet, length, rcomp, clips, next),
     }
 }
 
 fn from_soft(
     line: &[u8],
     class: u32,
-    letters: u32,
+    alphabet: u32,
     length: u32,
     rcomp: u32,
     clips: Clips,
     c: Cursor,
 ) -> AlignedBlock
-    ensures { λ r. ⌜ r ≡ fromSoft class letters (unhex (now (line .entry))) length rcomp clips (c .at) ⌝ }
+    ensures { λ r. ⌜ r ≡ fromSoft class alphabet (unhex (now (line .entry))) length rcomp clips (c .at) ⌝ }
 {
     let at = c.at;
-    match read_symbols(line, letters, clips.soft(), c) {
+    match read_symbols(line, alphabet, clips.soft(), c) {
         Checked::Refused(n) => AlignedBlock::Refused(n),
-        Checked::Value(_, next) => from_edits(line, class, letters, length, rcomp, clips, at, next),
+        Checked::Value(_, next) => from_edits(
+            line,
+            class,
+            alphabet,
+            length,
+            rcomp,
+            clips,
+            at,
+            next,
+        ),
     }
 }
 
@@ -90,14 +99,14 @@ fn from_soft(
 fn from_edits(
     line: &[u8],
     class: u32,
-    letters: u32,
+    alphabet: u32,
     length: u32,
     rcomp: u32,
     clips: Clips,
     soft_at: usize,
     c: Cursor,
 ) -> AlignedBlock
-    ensures { λ r. ⌜ r ≡ fromEdits class letters (unhex (now (line .entry))) length rcomp clips «soft_at» (c .at) ⌝ }
+    ensures { λ r. ⌜ r ≡ fromEdits class alphabet (unhex (now (line .entry))) length rcomp clips «soft_at» (c .at) ⌝ }
 {
     let at = c.at;
     if class == Unit::P {
@@ -109,7 +118,7 @@ fn from_edits(
             edits: 0,
             edits_at: at,
         };
-        return tally(line, class, letters, segment);
+        return tally(line, class, alphabet, segment);
     }
     match read_count(line, c) {
         Checked::Refused(n) => AlignedBlock::Refused(n),
@@ -122,20 +131,20 @@ fn from_edits(
                 edits,
                 edits_at: next.at,
             };
-            tally(line, class, letters, segment)
+            tally(line, class, alphabet, segment)
         }
     }
 }
 
 // The edits, one by one.
-fn tally(line: &[u8], class: u32, letters: u32, segment: Segment) -> AlignedBlock
-    ensures { λ r. ⌜ r ≡ tallied class letters (unhex (now (line .entry))) segment ⌝ }
+fn tally(line: &[u8], class: u32, alphabet: u32, segment: Segment) -> AlignedBlock
+    ensures { λ r. ⌜ r ≡ tallied class alphabet (unhex (now (line .entry))) segment ⌝ }
 {
     let clips = segment.clips;
     let edits_at = segment.edits_at;
     let edits = segment.edits;
     let mapped = mapped_length(segment.length, clips);
-    match ecigar::check::check(line, class, letters, edits_at, edits, mapped) {
+    match ecigar::check::check(line, class, alphabet, edits_at, edits, mapped) {
         ecigar::check::Checked::Refused(n) => AlignedBlock::Refused(n),
         ecigar::check::Checked::Fine { taken, text } => {
             let whole = Aligned {

@@ -39,7 +39,7 @@ pub(crate) fn read_clips(line: &[u8], length: u32, c: Cursor) -> Clipped
 }
 
 fn within(clips: Clips, length: u32, next: Cursor) -> Clipped
-    ensures { λ r. ⌜ r ≡ clipsIn clips length next ⌝ }
+    ensures { λ r. ⌜ r ≡ clipsIn clips length (next .at) ⌝ }
 {
     if length <= clips.soft() {
         return Clipped::Refused(refusal::CLIPS_OUT);

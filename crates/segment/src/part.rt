@@ -67,7 +67,7 @@ fn place_block(line: &[u8], unit: Unit, reference: &[u8], position: u64, a: Alig
     ensures { λ r. ⌜ r ≡ placed unit (now (reference .entry)) (unhex (now (line .entry))) position a ⌝ }
 {
     let outside = place::refusal_of(unit, position, a.taken);
-    if outside != 0 {
+    if outside != refusal::FINE {
         return PartRead::Refused(outside);
     }
     let start = position as u32;
@@ -85,7 +85,7 @@ fn place_block(line: &[u8], unit: Unit, reference: &[u8], position: u64, a: Alig
         segment.edits,
         mapped,
     );
-    if unknown != 0 {
+    if unknown != refusal::FINE {
         return PartRead::Refused(unknown);
     }
     let whole = Placed {

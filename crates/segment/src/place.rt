@@ -19,5 +19,5 @@ pub(crate) fn refusal_of(unit: Unit, position: u64, taken: u32) -> u32
     if end + 1 < position + taken as u64 {
         return refusal::POSITION_OUT;
     }
-    0
+    refusal::FINE
 }

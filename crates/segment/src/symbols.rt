@@ -13,10 +13,10 @@ fn wide(b: u8) -> u32
 }
 
 // So many symbols from a place on: each is refused when it is complete. Answers their number and the place behind them.
-pub(crate) fn read_symbols(line: &[u8], letters: u32, count: u32, c: Cursor) -> Checked
-    ensures { λ r. ⌜ r ≡ symbolsAt letters (unhex (now (line .entry))) count (c .at) ⌝ }
+pub(crate) fn read_symbols(line: &[u8], alphabet: u32, count: u32, c: Cursor) -> Checked
+    ensures { λ r. ⌜ r ≡ symbolsAt alphabet (unhex (now (line .entry))) count (c .at) ⌝ }
 {
-    let size = alphabet::size(letters);
+    let size = alphabet::size(alphabet);
     let bytes = line.len() / 2;
     let mut at = c.at;
     let mut left = count;

@@ -19,20 +19,20 @@ pub enum UnalignedBlock {
     Refused(u32),
 }
 
-pub fn read(line: &[u8], letters: u32, c: Cursor) -> UnalignedBlock
-    ensures { λ r. ⌜ r ≡ unalignedAt letters (unhex (now (line .entry))) (c .at) ⌝ }
+pub fn read(line: &[u8], alphabet: u32, c: Cursor) -> UnalignedBlock
+    ensures { λ r. ⌜ r ≡ unalignedAt alphabet (unhex (now (line .entry))) (c .at) ⌝ }
 {
     match read_length(line, c) {
         Checked::Refused(n) => UnalignedBlock::Refused(n),
-        Checked::Value(length, next) => from_length(line, letters, length, next),
+        Checked::Value(length, next) => from_length(line, alphabet, length, next),
     }
 }
 
-fn from_length(line: &[u8], letters: u32, length: u32, c: Cursor) -> UnalignedBlock
-    ensures { λ r. ⌜ r ≡ fromLength letters (unhex (now (line .entry))) length (c .at) ⌝ }
+fn from_length(line: &[u8], alphabet: u32, length: u32, c: Cursor) -> UnalignedBlock
+    ensures { λ r. ⌜ r ≡ fromLength alphabet (unhex (now (line .entry))) length (c .at) ⌝ }
 {
     let at = c.at;
-    match read_symbols(line, letters, length, c) {
+    match read_symbols(line, alphabet, length, c) {
         Checked::Refused(n) => UnalignedBlock::Refused(n),
         Checked::Value(_, next) => {
             let whole = Unaligned { length, at, next };

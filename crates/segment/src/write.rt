@@ -2,10 +2,10 @@
 use crate::part::Part;
 use crate::part::Placed;
 use crate::unaligned::Unaligned;
+use unit::Unit;
 use writing::lay::put_u8;
 use writing::lay::put_u16;
 use writing::lay::put_u32;
-use unit::Unit;
 ghost use mathlib.Core.Path.{_≡_};
 ghost use Prim.Native.Nat.{_+_, _*_, _≤_};
 ghost use lib.ListN.{length};
@@ -48,7 +48,7 @@ fn write_aligned(
 {
     let segment = p.segment;
     let class = unit.class;
-    let letters = unit.alphabet;
+    let alphabet = unit.alphabet;
     let a = put_u32(out, at, p.position);
     let b = put_u8(out, a, segment.rcomp);
     let c = put_u16(out, b, segment.length);
@@ -57,14 +57,14 @@ fn write_aligned(
         c,
         reference,
         unit.first,
-        letters,
+        alphabet,
         p.position,
         line,
         class,
         segment,
     );
     let e = put_u16(out, d, p.text);
-    ecigar::text::write(out, e, line, class, letters, segment)
+    ecigar::text::write(out, e, line, class, alphabet, segment)
 }
 
 fn write_unaligned(out: &mut [u8], at: usize, line: &[u8], unit: Unit, s: Unaligned) -> usize
@@ -77,6 +77,6 @@ fn write_unaligned(out: &mut [u8], at: usize, line: &[u8], unit: Unit, s: Unalig
     let a = put_u32(out, at, 0);
     let b = put_u8(out, a, 0);
     let c = put_u16(out, b, s.length);
-    let d = bases::put_clipped(out, c, line, unit.alphabet, start, end);
+    let d = bases::put_letters(out, c, line, unit.alphabet, start, end);
     put_u16(out, d, 0)
 }

@@ -21,7 +21,7 @@ returns : tie.Need-returns
 returns c = laid-none-of _ _ (c .before .before .before .before .put-matched .ensures) (c .if1 .taken)
 
 put-letter-requires : tie.Need-put-letter-requires
-put-letter-requires c κs = room-letter (c .before .before .before .before .before .before .before .before .before .before .args .letters) (c .before .before .before .before .before .before .before .before .before .before .args .e) (c .before .before .before .before .before .put-matched .ensures) (c .before .if1 .left) (c .before .before .before .before .before .before .before .before .before .before .pre .1 .1)
+put-letter-requires c κs = room-letter (c .before .before .before .before .before .before .before .before .before .before .args .alphabet) (c .before .before .before .before .before .before .before .before .before .before .args .e) (c .before .before .before .before .before .put-matched .ensures) (c .before .if1 .left) (c .before .before .before .before .before .before .before .before .before .before .pre .1 .1)
 
 same-length-2 : tie.Need-same-length-2
 same-length-2 c = search needs

@@ -2,7 +2,6 @@
 use borrow.Author.Needs.{needs}
 use native.Mathlib.Omega.{arith}
 use borrow.Author.Tests.{eq-eqb, ne-eqb}
-use Rattle.ecigar.specs.Tally.{takenBy}
 use Rattle.ecigar.proofs.check.taken_by.Statement.{statement}
 use Rattle.ecigar.proofs.check.taken_by.Tie as tie
 
@@ -13,14 +12,12 @@ sub-matched : tie.Need-sub-matched
 sub-matched c = search needs
 
 returns : tie.Need-returns
-unfolding takenBy
 returns c = (simp (eq-eqb _ _ (c .if1 .taken)) (omega arith), omega arith)
 
 add-result : tie.Need-add-result
 add-result c = search needs
 
 returns-2 : tie.Need-returns-2
-unfolding takenBy
 returns-2 c = (simp (ne-eqb _ _ (c .if1 .left)), omega arith)
 
 pub taken-by-spec : {M : Type 1} → statement M

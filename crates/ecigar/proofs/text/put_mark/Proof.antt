@@ -14,16 +14,16 @@ letter-requires : tie.Need-letter-requires
 letter-requires c κs = search needs
 
 put-byte-requires : tie.Need-put-byte-requires
-put-byte-requires c κs = let p = rw (mark-letter (c .before .before .before .before .before .before .args .letters) (c .before .before .before .before .before .before .args .e) (c .before .before .before .if1 .taken)) at (c .before .before .before .before .before .before .pre) in omega arith
+put-byte-requires c κs = let p = rw (mark-letter (c .before .before .before .before .before .before .args .alphabet) (c .before .before .before .before .before .before .args .e) (c .before .before .before .if1 .taken)) at (c .before .before .before .before .before .before .pre) in omega arith
 
 same-length : tie.Need-same-length
 same-length c = search needs
 
 returns : tie.Need-returns
-returns c = laid-as (sym (mark-letter (c .before .before .before .before .before .before .before .before .before .args .letters) (c .before .before .before .before .before .before .before .before .before .args .e) (c .before .before .before .before .before .before .if1 .taken))) (rw (← c .before .before .before .before .letter .ensures) (c .before .before .put-byte .ensures))
+returns c = laid-as (sym (mark-letter (c .before .before .before .before .before .before .before .before .before .args .alphabet) (c .before .before .before .before .before .before .before .before .before .args .e) (c .before .before .before .before .before .before .if1 .taken))) (rw (← c .before .before .before .before .letter .ensures) (c .before .before .put-byte .ensures))
 
 returns-2 : tie.Need-returns-2
-returns-2 c = laid-as (sym (mark-none (c .before .before .before .args .letters) (c .before .before .before .args .e) (c .if1 .left))) (laid-none _ _)
+returns-2 c = laid-as (sym (mark-none (c .before .before .before .args .alphabet) (c .before .before .before .args .e) (c .if1 .left))) (laid-none _ _)
 
 pub put-mark-spec : {M : Type 1} → statement M
 put-mark-spec =

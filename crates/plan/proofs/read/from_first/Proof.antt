@@ -1,5 +1,5 @@
 -- `plan::read::from_first` meets its contract: what the segment was read as picks the case. Assumes nothing.
-use Rattle.plan.proofs.Steps.{first-read, first-refused}
+use Rattle.plan.proofs.Steps.{part-read, part-refused}
 use Rattle.plan.specs.Plan.{fromFirst}
 use borrow.Author.Needs.{needs}
 use Rattle.plan.proofs.read.from_first.Statement.{statement}
@@ -19,11 +19,11 @@ from-second-requires c κs = search needs
 
 returns : tie.Need-returns
 unfolding fromFirst
-returns c = search (first-read, first-refused)
+returns c = search (part-read, part-refused)
 
 returns-2 : tie.Need-returns-2
 unfolding fromFirst
-returns-2 c = search (first-read, first-refused)
+returns-2 c = search (part-read, part-refused)
 
 pub from-first-spec : {M : Type 1} → statement M
 from-first-spec =

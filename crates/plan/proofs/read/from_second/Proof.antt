@@ -1,6 +1,6 @@
 -- `plan::read::from_second` meets its contract: what the segment was read as picks the case. Assumes nothing.
 use Rattle.frame.proofs.StepLaws.{steps}
-use Rattle.plan.proofs.Steps.{second-read, second-refused}
+use Rattle.plan.proofs.Steps.{part-read, part-refused}
 use Rattle.plan.specs.Plan.{fromSecond}
 use borrow.Author.Needs.{needs}
 use Rattle.plan.proofs.read.from_second.Statement.{statement}
@@ -27,11 +27,11 @@ finish-requires-2 c κs = search needs
 
 returns-2 : tie.Need-returns-2
 unfolding fromSecond
-returns-2 c = search (steps, second-refused)
+returns-2 c = search (steps, part-refused)
 
 returns-3 : tie.Need-returns-3
 unfolding fromSecond
-returns-3 c = search (steps, second-read)
+returns-3 c = search (steps, part-read)
 
 pub from-second-spec : {M : Type 1} → statement M
 from-second-spec =

@@ -30,15 +30,15 @@ put-u16-requires : tie.Need-put-u16-requires
 unfolding unalignedBytes
 put-u16-requires c κs = let h = simp (length-append, length-be, length-letters) at (c .before .before .before .before .before .before .before .before .before .before .before .before .pre .1) in omega (arith, laid-be 4 _ (c .before .before .before .before .before .before .before .put-u32 .ensures) .0, laid-be 4 _ (c .before .before .before .before .before .before .before .put-u32 .ensures) .1, laid-be 1 _ (c .before .before .before .put-u8 .ensures) .0, laid-be 1 _ (c .before .before .before .put-u8 .ensures) .1)
 
-put-clipped-requires : tie.Need-put-clipped-requires
+put-letters-requires : tie.Need-put-letters-requires
 unfolding unalignedBytes
-put-clipped-requires c κs = let s = c .before .before .before .before .before .before .before .before .before .before .before .before .before .before .before .before .args .s in
+put-letters-requires c κs = let s = c .before .before .before .before .before .before .before .before .before .before .before .before .before .before .before .before .args .s in
     (omega arith, rw (so-many (s .at) (s .length)) (let h = simp (length-append, length-be, length-letters) at (c .before .before .before .before .before .before .before .before .before .before .before .before .before .before .before .before .pre .1) in omega (arith, laid-be 4 _ (c .before .before .before .before .before .before .before .before .before .before .before .put-u32 .ensures) .0, laid-be 4 _ (c .before .before .before .before .before .before .before .before .before .before .before .put-u32 .ensures) .1, laid-be 1 _ (c .before .before .before .before .before .before .before .put-u8 .ensures) .0, laid-be 1 _ (c .before .before .before .before .before .before .before .put-u8 .ensures) .1, laid-be 2 _ (c .before .before .before .put-u16 .ensures) .0, laid-be 2 _ (c .before .before .before .put-u16 .ensures) .1)))
 
 put-u16-requires-2 : tie.Need-put-u16-requires-2
 unfolding unalignedBytes
 put-u16-requires-2 c κs = let s = c .before .before .before .before .before .before .before .before .before .before .before .before .before .before .before .before .before .before .before .before .args .s in
-    let l = rw (so-many (s .at) (s .length)) at (c .before .before .before .put-clipped .ensures) in
+    let l = rw (so-many (s .at) (s .length)) at (c .before .before .before .put-letters .ensures) in
     let h = simp (length-append, length-be, length-letters) at (c .before .before .before .before .before .before .before .before .before .before .before .before .before .before .before .before .before .before .before .before .pre .1) in
     omega (arith, laid-be 4 _ (c .before .before .before .before .before .before .before .before .before .before .before .before .before .before .before .put-u32 .ensures) .0, laid-be 4 _ (c .before .before .before .before .before .before .before .before .before .before .before .before .before .before .before .put-u32 .ensures) .1, laid-be 1 _ (c .before .before .before .before .before .before .before .before .before .before .before .put-u8 .ensures) .0, laid-be 1 _ (c .before .before .before .before .before .before .before .before .before .before .before .put-u8 .ensures) .1, laid-be 2 _ (c .before .before .before .before .before .before .before .put-u16 .ensures) .0, laid-be 2 _ (c .before .before .before .before .before .before .before .put-u16 .ensures) .1, simp length-letters at (l .to), length-laid l)
 
@@ -48,7 +48,7 @@ same-length c = search needs
 returns : tie.Need-returns
 unfolding unalignedBytes
 returns c = let s = c .before .before .before .before .before .before .before .before .before .before .before .before .before .before .before .before .before .before .before .before .before .before .before .args .s in
-    laid-then (laid-then (laid-then (laid-then (c .before .before .before .before .before .before .before .before .before .before .before .before .before .before .before .before .before .before .put-u32 .ensures) (c .before .before .before .before .before .before .before .before .before .before .before .before .before .before .put-u8 .ensures)) (c .before .before .before .before .before .before .before .before .before .before .put-u16 .ensures)) (rw (so-many (s .at) (s .length)) at (c .before .before .before .before .before .before .put-clipped .ensures))) (c .before .before .put-u162 .ensures)
+    laid-then (laid-then (laid-then (laid-then (c .before .before .before .before .before .before .before .before .before .before .before .before .before .before .before .before .before .before .put-u32 .ensures) (c .before .before .before .before .before .before .before .before .before .before .before .before .before .before .put-u8 .ensures)) (c .before .before .before .before .before .before .before .before .before .before .put-u16 .ensures)) (rw (so-many (s .at) (s .length)) at (c .before .before .before .before .before .before .put-letters .ensures))) (c .before .before .put-u162 .ensures)
 
 pub write-unaligned-spec : {M : Type 1} → statement M
 write-unaligned-spec =
@@ -59,7 +59,7 @@ write-unaligned-spec =
     put-u32-requires
     put-u8-requires
     put-u16-requires
-    put-clipped-requires
+    put-letters-requires
     put-u16-requires-2
     same-length
     returns)

@@ -1,4 +1,4 @@
--- `bases::put_clipped` meets its contract. The loop's invariant: to lay what is left, from here, gives what laying the whole gives. Assumes nothing.
+-- `bases::put_letters` meets its contract. The loop's invariant: to lay what is left, from here, gives what laying the whole gives. Assumes nothing.
 use Prim.Native.Nat.{_-_, _≤_}
 use mathlib.Core.Path.{refl, sym}
 use mathlib.Core.List.{[], _∷_}
@@ -8,8 +8,8 @@ use Rattle.writing.proofs.LayLaws.{laid-as, laid-none, Rest, rest-start, rest-p
 use Rattle.bases.specs.Bases.{lettersAt}
 use Rattle.bases.proofs.ReferenceLaws.{laid-letter, letters-on, letters-end, length-letters}
 use borrow.Author.Needs.{needs}
-use Rattle.bases.proofs.put_clipped.Statement.{statement}
-use Rattle.bases.proofs.put_clipped.Tie as tie
+use Rattle.bases.proofs.put_letters.Statement.{statement}
+use Rattle.bases.proofs.put_letters.Tie as tie
 
 abbrev Inv-loop : tie.InvT-loop
 Inv-loop out₀ at line letters start end table next₀ i₀ out next i = (i ≤ end) × Rest out next (lettersAt letters (unhex line) i (end - i)) out₀ at (lettersAt letters (unhex line) start (end - start))
@@ -47,8 +47,8 @@ same-length c = c .before .loop .inv .1 .long
 returns-2 : tie.Need-returns-2 Inv-loop μ-loop
 returns-2 c = rest-done (c .before .loop .inv .1) (letters-end _ _ _ _ (c .loop-test .left))
 
-pub put-clipped-spec : {M : Type 1} → statement M
-put-clipped-spec =
+pub put-letters-spec : {M : Type 1} → statement M
+put-letters-spec =
     tie.close
     (tie.spec
     Inv-loop
