@@ -3,3 +3,5 @@ pub mod BasesLaws
 pub mod AlignmentLaws
 pub mod ReadLaws
 pub mod Examples
+pub mod RefusalLaws
+pub mod BytesLaws

@@ -14,7 +14,7 @@ use Rattle.refusal.specs.Numbers.{fine, symbolOut}
 use Rattle.writing.specs.Lay.{lay, Laid}
 use Rattle.frame.proofs.HexLaws.{by-test}
 use Rattle.writing.proofs.LayLaws.{laid-as, laid-then, laid-room}
-use Rattle.alphabet.specs.Table35.{letterN, letterOf, digitsOf, sizeOf, codeOfN}
+use Rattle.alphabet.specs.Table35.{letterN, letterOf, digitsOf, sizeOf}
 use Rattle.alphabet.proofs.AlphabetLaws.{digits-high, digits-low, letter-past}
 use Rattle.bases.specs.Reference.{isLent, baseAt, baseRefusal, firstOf, matchedBases, matchRefusal, least, lentBefore}
 use Rattle.bases.specs.Bases.{lettersAt, symbolsRefusal}
@@ -54,12 +54,6 @@ laid-letter alphabet symbol e f g =
       to = f;
       holds = g ∙ rw (e, digits-high alphabet _ (least-most symbol 16), digits-low alphabet _ (least-most symbol 16), letter-least);
     }
-
--- ---- N is the same letter in either alphabet
-
-pub letter-n : (alphabet : ℕ) → letterOf alphabet (codeOfN alphabet) ≡ letterN
-unfolding letterOf codeOfN
-letter-n alphabet = by-test (eqb alphabet 0) (λ t. rw t) (λ t. rw t)
 
 -- ---- padding, one by one
 

@@ -1,28 +1,19 @@
--- The laws of the two files' readers: what they refuse has a number below 17, and what they accept is as a listing needs it.
+-- The laws of the two files' readers: what they refuse has a number of the table but 17, and what they accept is as a listing needs it.
 -- Assumes nothing.
-use Prim.Native.Nat.{ℕ, _+_, _*_, _<_, _≤_}
+use Prim.Native.Nat.{ℕ, _+_, _≤_}
 use native.Mathlib.Omega.{arith}
 use mathlib.Core.Path.{_≡_, refl, sym, ap}
 use mathlib.Core.List.{List, [], _∷_, _++_}
-use lib.Dec.{lit<, ltb, eqb}
 use lib.ListN.{length}
-use Rattle.refusal.specs.Numbers.{noRoom}
+use Rattle.refusal.specs.Numbers.{Early}
 use Rattle.frame.specs.Hex.{unhex}
-use Rattle.frame.specs.Line.{lineOf}
-use Rattle.frame.specs.Field.{bigAt, fieldAt, afterField}
-use Rattle.frame.specs.declared.line.Line.{Line}
-use Rattle.frame.specs.declared.line.Line.the-variants.{Frame, Malformed}
-use Rattle.frame.specs.declared.field.Cursor.{Cursor}
-use Rattle.frame.specs.declared.field.Field.{Field}
-use Rattle.frame.specs.declared.field.Field.the-variants.{Value, Short}
+use Rattle.frame.specs.Field.{bigAt}
 use Rattle.frame.proofs.HexLaws.{bytes-unhex}
-use Rattle.frame.specs.Steps.{afterLine}
-use Rattle.unit.specs.Kinds.{kindUnit, kindPair, kindReference}
-use Rattle.unit.specs.Unit.{mostRecords, mostReference, classP, classU, lastAlphabet, mostSegments, leastSegments}
-use Rattle.unit.specs.State.{mostSymbols, subsequences, tableLength}
-use Rattle.preface.specs.UnitLine.{unitLine, unitClass, unitTemplate, unitEnds, unitNumber}
-use Rattle.preface.specs.PairLine.{pairLine, pairCount, pairSymbols, pairNumber, pairHead, symbolsAt, symbolBytes}
-use Rattle.preface.specs.ReferenceLine.{basesOf, addedBases, referenceLine, referenceNumber, mostLineBases}
+use Rattle.unit.specs.Unit.{mostRecords, mostReference}
+use Rattle.unit.specs.State.{mostSymbols, tableLength}
+use Rattle.preface.specs.UnitLine.{unitLine}
+use Rattle.preface.specs.PairLine.{pairLine, pairHead, symbolsAt}
+use Rattle.preface.specs.ReferenceLine.{basesOf, referenceLine}
 use Rattle.unit.specs.declared.Unit.{Unit}
 use Rattle.preface.specs.declared.unit_line.UnitLine.{UnitLine}
 use Rattle.preface.specs.declared.unit_line.UnitLine.the-variants as unit
@@ -33,113 +24,11 @@ use Rattle.preface.specs.declared.reference_line.ReferenceLine.the-variants as 
 use Rattle.unit.proofs.ValidLaws.{valid-is}
 use Rattle.preface.proofs.UnitLaws.{unit-accepted, unit-valid}
 use Rattle.preface.proofs.PairLaws.{pair-accepted, length-symbols}
-use Rattle.pairing.proofs.Taking.{by-test, one-of}
+use Rattle.preface.proofs.RefusalLaws.{UnitLow, unit-low, PairLow, pair-low, ReferenceLow, reference-low}
 use Rattle.listing.specs.Record.{FirstLine}
 use Rattle.listing.specs.Files.{Read, good, wrong}
 use Rattle.listing.proofs.ResumeLaws.{first-line}
 use Rattle.decoder.specs.Files.{afterBases, basesFrom, readReference, unitBy, readUnit, symbolsBy, readPair}
-
--- ---- what holds of every end of a definition
-
-module _ {X : Type 0} (P : X → Type 0) where
-  of-line : (r : Line) (bad x : X) → P bad → P x → P (afterLine bad r x)
-  of-line (Frame n) bad x h k = k
-  of-line Malformed bad x h k = h
-
-  of-field : (r : Field) (short : X) (f : ℕ → Cursor → X) → P short → ((v : ℕ) (c : Cursor) → P (f v c)) → P (afterField short r f)
-  of-field (Value v c) short f h k = k v c
-  of-field Short short f h k = h
-
--- ---- the numbers of refusals
-
--- of a unit line
-abbrev UnitLow : UnitLine → Type 0
-UnitLow r = unitNumber r < noRoom
-
-ends-low : (s : List ℕ) (c : Cursor) (class alphabet segments sequence first : ℕ) → UnitLow (unitEnds s c class alphabet segments sequence first)
-unfolding unitEnds
-ends-low s c class alphabet segments sequence first =
-    of-field UnitLow (fieldAt 4 s (c .at)) _ _ (lit< tt)
-    (λ start d. of-field UnitLow (fieldAt 4 s (d .at)) _ _ (lit< tt)
-    (λ end e. one-of UnitLow (ltb end start) _ _ (lit< tt)
-    (of-field UnitLow (fieldAt 2 s (e .at)) _ _ (lit< tt)
-    (λ records f. one-of UnitLow (ltb mostRecords records) _ _ (lit< tt)
-    (one-of UnitLow (ltb (f .at) (length s)) _ _ (lit< tt) (lit< tt))))))
-
-template-low : (s : List ℕ) (c : Cursor) (class alphabet : ℕ) → UnitLow (unitTemplate s c class alphabet)
-unfolding unitTemplate
-template-low s c class alphabet =
-    of-field UnitLow (fieldAt 1 s (c .at)) _ _ (lit< tt)
-    (λ segments d. one-of UnitLow (ltb mostSegments segments) _ _ (lit< tt)
-    (one-of UnitLow (ltb segments (leastSegments class)) _ _ (lit< tt)
-    (of-field UnitLow (fieldAt 2 s (d .at)) _ _ (lit< tt)
-    (λ sequence e. of-field UnitLow (fieldAt 4 s (e .at)) _ _ (lit< tt)
-    (λ first f. ends-low s f class alphabet segments sequence first)))))
-
-class-low : (s : List ℕ) (c : Cursor) → UnitLow (unitClass s c)
-unfolding unitClass
-class-low s c =
-    of-field UnitLow (fieldAt 1 s (c .at)) _ _ (lit< tt)
-    (λ class d. one-of UnitLow (ltb class classP) _ _ (lit< tt)
-    (one-of UnitLow (ltb classU class) _ _ (lit< tt)
-    (of-field UnitLow (fieldAt 1 s (d .at)) _ _ (lit< tt)
-    (λ alphabet e. one-of UnitLow (ltb lastAlphabet alphabet) _ _ (lit< tt) (template-low s e class alphabet)))))
-
-unit-low : (line : List ℕ) → UnitLow (unitLine line)
-unfolding unitLine
-unit-low line =
-    of-line UnitLow (lineOf line) _ _ (lit< tt)
-    (of-field UnitLow (fieldAt 1 (unhex line) 0) _ _ (lit< tt)
-    (λ kind c. one-of UnitLow (eqb kind kindUnit) _ _ (class-low (unhex line) c) (lit< tt)))
-
--- of a pair line
-abbrev PairLow : PairLine → Type 0
-PairLow r = pairNumber r < noRoom
-
-symbols-low : (s : List ℕ) (count : ℕ) (c : Cursor) → PairLow (pairSymbols s count c)
-unfolding pairSymbols
-symbols-low s count c =
-    one-of PairLow (ltb mostSymbols count) _ _ (lit< tt)
-    (one-of PairLow (ltb (length s) (c .at + symbolBytes * count)) _ _ (lit< tt)
-    (one-of PairLow (ltb (c .at + symbolBytes * count) (length s)) _ _ (lit< tt) (lit< tt)))
-
-count-low : (line : List ℕ) (number : ℕ) → PairLow (pairCount line number)
-unfolding pairCount
-count-low line number =
-    of-line PairLow (lineOf line) _ _ (lit< tt)
-    (of-field PairLow (fieldAt 1 (unhex line) 0) _ _ (lit< tt)
-    (λ kind c. one-of PairLow (eqb kind kindPair) _ _
-    (of-field PairLow (fieldAt 1 (unhex line) (c .at)) _ _ (lit< tt)
-    (λ sub d. one-of PairLow (eqb sub number) _ _
-    (of-field PairLow (fieldAt 2 (unhex line) (d .at)) _ _ (lit< tt) (λ count e. symbols-low (unhex line) count e))
-    (lit< tt)))
-    (lit< tt)))
-
-pair-low : (line : List ℕ) (number places : ℕ) → PairLow (pairLine line number places)
-unfolding pairLine
-pair-low line number places =
-    one-of PairLow (eqb places tableLength) _ _
-    (one-of PairLow (ltb number subsequences) _ _ (count-low line number) (lit< tt))
-    (lit< tt)
-
--- of a reference line, where as many places are lent as a reference may have: 17 is behind the limit itself
-abbrev ReferenceLow : ReferenceLine → Type 0
-ReferenceLow r = referenceNumber r < noRoom
-
-added-low : (n used : ℕ) → ReferenceLow (addedBases n used mostReference)
-unfolding addedBases
-added-low n used =
-    one-of ReferenceLow (ltb n 1) _ _ (lit< tt)
-    (one-of ReferenceLow (ltb mostLineBases n) _ _ (lit< tt)
-    (one-of ReferenceLow (ltb mostReference used) _ _ (lit< tt)
-    (by-test ReferenceLow (ltb mostReference (used + n)) _ _ (λ t. lit< tt) (λ t. rw t (lit< tt)))))
-
-reference-low : (line : List ℕ) (used : ℕ) → ReferenceLow (referenceLine line used mostReference)
-unfolding referenceLine
-reference-low line used =
-    of-line ReferenceLow (lineOf line) _ _ (lit< tt)
-    (of-field ReferenceLow (fieldAt 1 (unhex line) 0) _ _ (lit< tt)
-    (λ kind c. one-of ReferenceLow (eqb kind kindReference) _ _ (added-low _ used) (lit< tt)))
 
 -- ---- the readers
 
@@ -148,34 +37,34 @@ wrong-good e = absurd (let z : _≡_ {A = ℕ} 0 1 = cc in omega arith)
 
 -- what they refuse
 
-pub unit-refused : (line : List ℕ) (n : ℕ) → readUnit line ≡ wrong n → n < noRoom
+pub unit-refused : (line : List ℕ) (n : ℕ) → readUnit line ≡ wrong n → Early n
 unfolding readUnit
 unit-refused line n e = by (unitLine line) (unit-low line) e
   where
-    by : (r : UnitLine) → UnitLow r → unitBy r ≡ wrong n → n < noRoom
+    by : (r : UnitLine) → UnitLow r → unitBy r ≡ wrong n → Early n
     by (unit.Read u) h q = wrong-good q
     by (unit.Refused m) h q = let z : m ≡ n = cc in rw (← z) h
 
-pub pair-refused : (i : ℕ) (line : List ℕ) (n : ℕ) → readPair i line ≡ wrong n → n < noRoom
+pub pair-refused : (i : ℕ) (line : List ℕ) (n : ℕ) → readPair i line ≡ wrong n → Early n
 unfolding readPair
 pair-refused i line n e = by (pairLine line i tableLength) (pair-low line i tableLength) e
   where
-    by : (r : PairLine) → PairLow r → symbolsBy line r ≡ wrong n → n < noRoom
+    by : (r : PairLine) → PairLow r → symbolsBy line r ≡ wrong n → Early n
     by (pair.Count m) h q = wrong-good q
     by (pair.Refused m) h q = let z : m ≡ n = cc in rw (← z) h
 
-bases-refused : (bases : List ℕ) (ls : List (List ℕ)) (n : ℕ) → basesFrom bases ls ≡ wrong n → n < noRoom
+bases-refused : (bases : List ℕ) (ls : List (List ℕ)) (n : ℕ) → basesFrom bases ls ≡ wrong n → Early n
 unfolding basesFrom
 bases-refused bases [] n e = wrong-good e
 bases-refused bases (line ∷ ls) n e =
     by (referenceLine line (length bases) mostReference) (reference-low line (length bases)) e (bases-refused (bases ++ basesOf (unhex line)) ls n)
   where
     by : (r : ReferenceLine) → ReferenceLow r → afterBases r (basesFrom (bases ++ basesOf (unhex line)) ls) ≡ wrong n
-        → (basesFrom (bases ++ basesOf (unhex line)) ls ≡ wrong n → n < noRoom) → n < noRoom
+        → (basesFrom (bases ++ basesOf (unhex line)) ls ≡ wrong n → Early n) → Early n
     by (ref.Bases m) h q go = go q
     by (ref.Refused m) h q go = let z : m ≡ n = cc in rw (← z) h
 
-pub reference-refused : (ls : List (List ℕ)) (n : ℕ) → readReference ls ≡ wrong n → n < noRoom
+pub reference-refused : (ls : List (List ℕ)) (n : ℕ) → readReference ls ≡ wrong n → Early n
 reference-refused ls n = bases-refused [] ls n
 
 -- what they accept

@@ -17,6 +17,7 @@ use Rattle.block.specs.Segment.{noClips, mappedLength}
 use Rattle.block.specs.declared.edit.Edit.{Edit}
 use Rattle.block.specs.declared.Segment.{Segment}
 use Rattle.block.proofs.EditLaws.{length-edits, edits-none}
+use Rattle.alphabet.proofs.AlphabetLaws.{letter-of-n}
 use Rattle.ecigar.specs.Table90.{printed}
 use Rattle.ecigar.specs.Ecigar.{setOut, ecigarOf, clip, leftClip, rightClip, segmentEdits, ecigarText, offsetsOf, lettersIn, typesOf, Aligned}
 use Rattle.ecigar.specs.Table93.{item, decodeECigarMismatches}
@@ -46,10 +47,6 @@ each-m class alphabet frame zero at h = none
 each-m class alphabet frame (suc k) at h =
     more (editAt class alphabet frame at) (simp (ne-eqb class classN (λ z. omega arith), eq-eqb class classM h)) (each-m class alphabet frame k (at + widthOf class) h)
 
-letter-n : (alphabet : ℕ) → letterOf alphabet (codeOfN alphabet) ≡ letterN
-unfolding letterOf codeOfN
-letter-n alphabet = by-test (eqb alphabet 0) (λ h. simp h) (λ h. simp h)
-
 -- Classes I or HM
 is-indel : (class : ℕ) → classI ≤ class → class ≤ classHM → (eqb class classI || eqb class classHM) ≡ true
 is-indel class l h =
@@ -78,7 +75,7 @@ module _ (class alphabet : ℕ) (frame : List ℕ) (len k at : ℕ) where
         many [] []
         ∙ simp (ne-eqb class classP (λ z. omega arith), eq-eqb class classN h)
         (mismatch-text alphabet len (sizeOf alphabet) (λ (i : ℕ). letterN) (IsN alphabet) (λ e p. p .0) es
-        (λ i e rest q p. sym (letter-n alphabet) ∙ ap (λ (y : ℕ). letterOf alphabet y) (sym (p .1))) (each-n class alphabet frame k at h) sound)
+        (λ i e rest q p. sym (letter-of-n alphabet) ∙ ap (λ (y : ℕ). letterOf alphabet y) (sym (p .1))) (each-n class alphabet frame k at h) sound)
 
     table93-m : class ≡ classM → decodeECigarMismatches class len k (offsetsOf es) (lettersIn alphabet es) [] ≡ ecigarOf alphabet len es
     unfolding decodeECigarMismatches ecigarOf

@@ -5,3 +5,4 @@ pub mod NextLaws
 pub mod Unique
 pub mod StepLaws
 pub mod AnswerLaws
+pub mod Tests

@@ -7,3 +7,4 @@ pub mod ResumeLaws
 pub mod Kept
 pub mod Shapes
 pub mod Unique
+pub mod Signs

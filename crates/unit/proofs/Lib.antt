@@ -1,2 +1,4 @@
 pub mod ValidLaws
 pub mod Unique
+pub mod RefusalLaws
+pub mod ListedLaws

@@ -4,7 +4,8 @@ use mathlib.Core.List.{[], _∷_}
 use lib.ListN.{replicate, length-replicate}
 use Rattle.alphabet.specs.Table35.{letterN}
 use Rattle.writing.proofs.LayLaws.{Rest, rest-start, rest-put, rest-room, rest-done}
-use Rattle.bases.proofs.ReferenceLaws.{padding-on, padding-end, letter-n}
+use Rattle.alphabet.proofs.AlphabetLaws.{letter-of-n}
+use Rattle.bases.proofs.ReferenceLaws.{padding-on, padding-end}
 use borrow.Author.Needs.{needs}
 use Rattle.bases.proofs.lent.put_padding.Statement.{statement}
 use Rattle.bases.proofs.lent.put_padding.Tie as tie
@@ -22,7 +23,7 @@ letter-requires : tie.Need-letter-requires Inv-loop μ-loop
 letter-requires c κs = search needs
 
 loop-holds : tie.Need-loop-holds Inv-loop μ-loop
-loop-holds c = (c .letter .ensures ∙ rw (c .before .index-of-n .ensures) (letter-n _), rest-start _ _ _)
+loop-holds c = (c .letter .ensures ∙ rw (c .before .index-of-n .ensures) (letter-of-n _), rest-start _ _ _)
 
 put-byte-requires : tie.Need-put-byte-requires Inv-loop μ-loop
 put-byte-requires c κs = rest-room (_ ∷ []) _ (c .before .before .loop .inv .1) (padding-on _ (c .before .before .loop .inv .0) (c .before .loop-test .taken)) (rw length-replicate (c .before .before .before .before .before .before .pre))
