@@ -7,9 +7,10 @@ use mathlib.Core.List.{List, [], _∷_}
 use Prim.Native.Nat.{ℕ, zero, suc, _+_, _*_, _/_, _%_, _<_, _≤_}
 use native.Mathlib.Nat.{zero-add}
 use native.Mathlib.Omega.{arith}
-use borrow.Author.Tests.{ltb-true}
-use lib.Dec.{eqb, ltb}
-use lib.ListN.{length, getD, List·getD-eq-default}
+use borrow.Author.Tests.{ltb-true, eq-eqb, ne-eqb, eqb-true, leb-true, leb-false}
+use lib.Dec.{eqb, ltb, leb, lit<}
+use lib.ListN.{length, getD, List·getD-eq-default, drop, drop-of-length-le}
+use lib.Seq.{drop-cons}
 use Rattle.frame.specs.Hex.{glyph, hexOf}
 use Rattle.frame.proofs.Tests.{by-test, false-true, one-of}
 use Rattle.alphabet.specs.Table35.{S₀, S₁, lettersOf, letterN, sizeOf, letterOf, codeOfN}
@@ -59,6 +60,17 @@ pub outside : (alphabet index : ℕ) → sizeOf alphabet ≤ index → letterOf 
 unfolding sizeOf letterOf
 outside alphabet index h = List·getD-eq-default (lettersOf alphabet) 0 h
 
+-- a letter of the alphabet is a real letter
+pub letter-real : (alphabet symbol : ℕ) → symbol < sizeOf alphabet → 0 < letterOf alphabet symbol
+letter-real alphabet symbol h = inside alphabet symbol h .some
+
+-- so every index has a byte
+pub letter-byte : (alphabet index : ℕ) → letterOf alphabet index < 256
+letter-byte alphabet index =
+    by-test (leb (sizeOf alphabet) index)
+    (λ t. rw (outside alphabet index (leb-true _ _ t)) (lit< tt))
+    (λ t. inside alphabet index (leb-false _ _ t) .byte)
+
 -- ---- sizes, and the letter N
 
 pub size-two : (alphabet : ℕ) → (sizeOf alphabet ≡ 5) ⊎ (sizeOf alphabet ≡ 16)
@@ -68,6 +80,14 @@ size-two = each-alphabet (λ l. (length l ≡ 5) ⊎ (length l ≡ 16)) (inl ref
 pub letter-of-n : (alphabet : ℕ) → letterOf alphabet (codeOfN alphabet) ≡ letterN
 unfolding letterOf codeOfN
 letter-of-n alphabet = by-test (eqb alphabet 0) (λ t. simp t) (λ t. simp t)
+
+pub code-of-n-inside : (alphabet : ℕ) → codeOfN alphabet < sizeOf alphabet
+unfolding sizeOf codeOfN
+code-of-n-inside alphabet = by-test (eqb alphabet 0) (λ t. simp t (lit< tt)) (λ t. simp t (lit< tt))
+
+pub code-n-lt : {y : ℕ} (alphabet : ℕ) → y ≡ codeOfN alphabet → y < 256
+unfolding codeOfN
+code-n-lt alphabet e = by-test (eqb alphabet 0) (λ t. rw (e, t) (omega arith)) (λ t. rw (e, t) (omega arith))
 
 -- ---- the table of digits: a letter's two digits stand at twice its index
 

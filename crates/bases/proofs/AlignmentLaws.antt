@@ -5,7 +5,6 @@ use mathlib.Core.Path.{_≡_, refl, ap, _∙_}
 use mathlib.Core.Logic.{_⊎_, inl, inr, ⊎-elim}
 use mathlib.Core.List.{List, [], _∷_, _++_}
 use native.Mathlib.Omega.{arith}
-use borrow.Author.Needs.{needs}
 use native.Mathlib.Nat.{add-zero}
 use borrow.Author.Tests.{ltb-true, ltb-false, leb-false, eqb-true, eqb-false}
 use lib.Dec.{ltb, leb, eqb}
@@ -13,10 +12,11 @@ use lib.ListN.{length, getD, length-append, List·getD-append}
 use lib.Seq.{getD-append-add}
 use Rattle.refusal.specs.Numbers.{fine, symbolOut}
 use Rattle.frame.proofs.HexLaws.{by-test}
-use Rattle.alphabet.specs.Table35.{S₀, S₁, lettersOf, sizeOf, letterOf}
+use Rattle.alphabet.specs.Table35.{sizeOf, letterOf}
 use Rattle.block.specs.declared.edit.Edit.{Edit}
 use Rattle.block.specs.Edits.{deletion, nextOffset, Sound, takenFrom}
-use Rattle.block.proofs.EditLaws.{accepted, sound-head, sound-tail, next-deletion, next-other, next-least, next-most, symbol-inside}
+use Rattle.block.proofs.EditLaws.{accepted, sound-head, sound-tail, next-deletion, next-other, next-least, next-most, symbol-inside, sound-accepted}
+use Rattle.alphabet.proofs.AlphabetLaws.{letter-real}
 use Rattle.bases.specs.declared.places.Places.{Places}
 use Rattle.bases.specs.Reference.{isLent, lentSymbol, baseAt, baseRefusal, firstOf, matchedBases, matchRefusal}
 use Rattle.bases.specs.Bases.{R, r, pastEdit, editBases, basesFrom, refusalFrom, pastAll}
@@ -57,7 +57,7 @@ module _ (alphabet : ℕ) (reference : List ℕ) (first mapped : ℕ) where
   unfolding basesFrom
   length-bases p [] s h = length-matched alphabet reference first (R p) (mapped - r p)
   length-bases p (e ∷ es) s h =
-      let a = accepted mapped (sizeOf alphabet) (r p) e (sound-head mapped (sizeOf alphabet) (r p) e es s) in
+      let a = sound-accepted mapped (sizeOf alphabet) (r p) e es s in
       let q = past-read e p in
       let i = length-bases (pastEdit e p) es (rw q (sound-tail mapped (sizeOf alphabet) (r p) e es s)) (omega (arith, a .inside)) in
       rw (length-append, length-edit alphabet reference first p e (a .order), i, q) (omega (arith, a .inside, a .order, next-least e))
@@ -83,7 +83,7 @@ under-least mapped symbols p [] i position s u = u .from
 under-least mapped symbols p (e ∷ es) i position s u =
     ⊎-elim (λ w. w .from)
     (λ w.
-    let a = accepted mapped symbols (r p) e (sound-head mapped symbols (r p) e es s) in
+    let a = sound-accepted mapped symbols (r p) e es s in
     let q = past-read e p in
     let l = under-least mapped symbols (pastEdit e p) es i position (rw q (sound-tail mapped symbols (r p) e es s)) w in
     omega (arith, a .order, next-least e))
@@ -93,7 +93,7 @@ pub edit-least : (mapped symbols next : ℕ) (es : List Edit) (i : ℕ) (d : Edi
 unfolding OfEdit
 edit-least mapped symbols next [] i d s u = absurd u
 edit-least mapped symbols next (e ∷ es) i d s u =
-    let a = accepted mapped symbols next e (sound-head mapped symbols next e es s) in
+    let a = sound-accepted mapped symbols next e es s in
     ⊎-elim (λ w. omega (arith, a .order, w .1 .1))
     (λ w. omega (arith, a .order, next-least e, edit-least mapped symbols (nextOffset e) es i d (sound-tail mapped symbols next e es s) w))
     u
@@ -103,7 +103,7 @@ pub under-most : (mapped symbols : ℕ) (p : Places) (es : List Edit) (i positio
 unfolding UnderMatch
 under-most mapped symbols p [] i position s u = u .until
 under-most mapped symbols p (e ∷ es) i position s u =
-    let a = accepted mapped symbols (r p) e (sound-head mapped symbols (r p) e es s) in
+    let a = sound-accepted mapped symbols (r p) e es s in
     ⊎-elim (λ w. omega (arith, w .until, a .inside, next-least e))
     (λ w. under-most mapped symbols (pastEdit e p) es i position (rw (past-read e p) (sound-tail mapped symbols (r p) e es s)) w)
     u
@@ -112,7 +112,7 @@ pub edit-most : (mapped symbols next : ℕ) (es : List Edit) (i : ℕ) (d : Edit
 unfolding OfEdit
 edit-most mapped symbols next [] i d s u = absurd u
 edit-most mapped symbols next (e ∷ es) i d s u =
-    let a = accepted mapped symbols next e (sound-head mapped symbols next e es s) in
+    let a = sound-accepted mapped symbols next e es s in
     ⊎-elim (λ w. omega (arith, a .inside, next-other e (w .1 .0), w .1 .1))
     (λ w. edit-most mapped symbols (nextOffset e) es i d (sound-tail mapped symbols next e es s) w)
     u
@@ -134,7 +134,7 @@ module _ (alphabet : ℕ) (reference : List ℕ) (first mapped : ℕ) where
   unfolding basesFrom UnderMatch
   match-at p [] i position s u = rw (u .at) (getD-matched alphabet reference first (R p) (mapped - r p) (i - r p) (omega (arith, u .from, u .until)))
   match-at p (e ∷ es) i position s u =
-      let a = accepted mapped (sizeOf alphabet) (r p) e (sound-head mapped (sizeOf alphabet) (r p) e es s) in
+      let a = sound-accepted mapped (sizeOf alphabet) (r p) e es s in
       let t = rw (← past-read e p) at (sound-tail mapped (sizeOf alphabet) (r p) e es s) in
       ⊎-elim
       (λ w.
@@ -153,7 +153,7 @@ module _ (alphabet : ℕ) (reference : List ℕ) (first mapped : ℕ) where
   unfolding basesFrom OfEdit
   edit-at p [] i d s u = absurd u
   edit-at p (e ∷ es) i d s u =
-      let a = accepted mapped (sizeOf alphabet) (r p) e (sound-head mapped (sizeOf alphabet) (r p) e es s) in
+      let a = sound-accepted mapped (sizeOf alphabet) (r p) e es s in
       let t = rw (← past-read e p) at (sound-tail mapped (sizeOf alphabet) (r p) e es s) in
       ⊎-elim
       (λ w.
@@ -187,31 +187,6 @@ from-somewhere mapped symbols p (e ∷ es) i s h l =
     (λ c.
     ⊎-elim (λ w. inl (w .0, inr (w .1))) (λ w. inr (w .0, inr (w .1)))
     (from-somewhere mapped symbols (pastEdit e p) es i t (omega (arith, past-read e p, ltb-false i (nextOffset e) c)) l)))
-
--- ---- a letter of the alphabet is a real letter
-
--- each of a list's numbers is above 0
-abbrev Above : List ℕ → Type 0
-Above [] = Unit
-Above (x ∷ xs) = (0 < x) × Above xs
-
-above-at : (xs : List ℕ) (i : ℕ) → Above xs → i < length xs → 0 < getD xs i 0
-above-at [] i a h = absurd (omega arith)
-above-at (x ∷ xs) zero a h = a .0
-above-at (x ∷ xs) (suc i) a h = above-at xs i (a .1) (omega arith)
-
-above-letters : (alphabet : ℕ) → Above (lettersOf alphabet)
-above-letters alphabet = by-test (eqb alphabet 0) (λ t. rw t five) (λ t. rw t sixteen)
-  where
-    five : Above S₀
-    five = search needs
-
-    sixteen : Above S₁
-    sixteen = search needs
-
-pub letter-real : (alphabet symbol : ℕ) → symbol < sizeOf alphabet → 0 < letterOf alphabet symbol
-unfolding sizeOf letterOf
-letter-real alphabet symbol h = above-at (lettersOf alphabet) symbol (above-letters alphabet) h
 
 -- ---- refusal 10 of the reference
 

@@ -1,25 +1,25 @@
 -- The laws of both pointers and of the bases they bring.
 -- Assumes nothing.
 use Prim.Native.Nat.{ℕ, zero, suc, _+_, _-_, _*_, _/_, _^_, _<_, _≤_}
-use mathlib.Core.Path.{_≡_, refl, ap, sym, _∙_}
+use mathlib.Core.Path.{_≡_, refl, ap, _∙_}
 use mathlib.Core.Bool.{cond}
 use mathlib.Core.List.{List, [], _∷_, _++_, append-nil}
 use native.Mathlib.Omega.{arith}
 use native.Mathlib.Nat.{add-zero}
-use borrow.Author.Tests.{le-ltb, ltb-true, ltb-false, eq-eqb, ne-eqb, eqb-true}
+use borrow.Author.Tests.{ltb-true, ltb-false, eq-eqb, ne-eqb, eqb-true}
 use lib.Dec.{ltb, eqb}
 use lib.ListN.{length, getD, length-append, List·getD-eq-default}
 use Rattle.refusal.specs.Numbers.{fine}
 use Rattle.frame.specs.Hex.{unhex}
 use Rattle.writing.specs.Lay.{Laid}
 use Rattle.frame.proofs.HexLaws.{by-test, length-unhex}
-use Rattle.writing.proofs.LayLaws.{Rest, rest-start, rest-room, laid-then, laid-room, length-laid}
+use Rattle.writing.proofs.LayLaws.{Rest, rest-room, laid-then, laid-room, length-laid}
 use Rattle.alphabet.specs.Table35.{letterOf}
 use Rattle.block.specs.declared.edit.Edit.{Edit}
 use Rattle.block.specs.declared.Segment.{Segment}
 use Rattle.block.specs.Segment.{mappedLength}
 use Rattle.block.specs.Edits.{insertion, deletion, widthOf, editAt, editsAt, nextOffset}
-use Rattle.block.proofs.EditLaws.{edit-inside, edits-on, edits-none, width-most}
+use Rattle.block.proofs.EditLaws.{edits-on, edits-none, width-most, edits-past}
 use Rattle.bases.specs.declared.places.Places.{Places}
 use Rattle.bases.specs.Reference.{matchedBases, matchRefusal, least}
 use Rattle.bases.specs.Bases.{R, r, farthest, beginning, pastEdit, editBases, basesFrom, refusalFrom, lettersAt, mappedBases, referenceRefusal, basesText}
@@ -46,16 +46,6 @@ past-most e p q h =
     by-test (eqb (e .kind) insertion) (λ t. let k = rw t at m in omega arith) (λ t. let k = rw t at m in omega arith)
 
 -- ---- past the frame's end every edit and every byte reads alike
-
-edit-past : (class alphabet : ℕ) (l : List ℕ) (a b : ℕ) → length l / 2 ≤ a → length l / 2 ≤ b → editAt class alphabet (unhex l) a ≡ editAt class alphabet (unhex l) b
-edit-past class alphabet l a b h k =
-    edit-inside class alphabet l a {here = length l / 2} (rw (le-ltb a (length l / 2) h))
-    ∙ sym (edit-inside class alphabet l b {here = length l / 2} (rw (le-ltb b (length l / 2) k)))
-
-pub edits-past : (class alphabet : ℕ) (l : List ℕ) (k a b : ℕ) → length l / 2 ≤ a → length l / 2 ≤ b → editsAt class alphabet (unhex l) k a ≡ editsAt class alphabet (unhex l) k b
-unfolding editsAt
-edits-past class alphabet l zero a b h j = refl
-edits-past class alphabet l (suc k) a b h j = rw (edit-past class alphabet l a b h j, edits-past class alphabet l k (a + widthOf class) (b + widthOf class) (omega arith) (omega arith))
 
 -- a place clipped to the frame reads as the place does
 pub edits-clipped : (class alphabet : ℕ) (l : List ℕ) (k at : ℕ) {here : ℕ} → here ≡ least at (length l / 2) → editsAt class alphabet (unhex l) k here ≡ editsAt class alphabet (unhex l) k at
@@ -140,10 +130,6 @@ module _ (class alphabet : ℕ) (l reference : List ℕ) (first position mapped 
 
   pub refusal-start : refusalFrom alphabet reference first mapped p (editsAt class alphabet (unhex l) count at) ≡ referenceRefusal class alphabet (unhex l) reference first position mapped count place
   refusal-start = rw (q, edits-clipped class alphabet l count place h)
-
--- a loop that writes starts on the same bytes under another name
-pub rest-from : (l : List ℕ) (p : ℕ) {xs ys : List ℕ} → xs ≡ ys → Rest l p xs l p ys
-rest-from l p e = rw e (rest-start l p _)
 
 -- ---- how far a walk over the edits comes: pointer R and the place in the frame stay within what 64 bits hold
 

@@ -21,7 +21,8 @@ use Rattle.bases.specs.Bases.{R, beginning, pastAll, lettersAt, mappedBa
 use Rattle.bases.specs.Alignment.{UnderMatch, OfEdit, Acceptable}
 use Rattle.bases.proofs.ReferenceLaws.{length-letters}
 use Rattle.bases.proofs.BasesLaws.{length-text}
-use Rattle.bases.proofs.AlignmentLaws.{reference-ends, length-bases, getD-back, match-at, edit-at, from-somewhere, under-most, edit-most, mapped-real, letter-real}
+use Rattle.bases.proofs.AlignmentLaws.{reference-ends, length-bases, getD-back, match-at, edit-at, from-somewhere, under-most, edit-most, mapped-real}
+use Rattle.alphabet.proofs.AlphabetLaws.{letter-real}
 
 -- pointer R ends behind the reference positions that the edits take
 pub reference-taken : (mapped position : ℕ) (es : List Edit) → R (pastAll mapped (beginning position) es) ≡ position + takenFrom mapped 0 es

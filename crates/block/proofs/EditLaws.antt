@@ -2,12 +2,11 @@
 -- Assumes nothing.
 use Prim.Native.Nat.{ℕ, zero, suc, _+_, _-_, _*_, _/_, _<_, _≤_}
 use mathlib.Core.Path.{_≡_, refl, ap, sym, _∙_}
-use mathlib.Core.Bool.{Bool, true, false, cond}
+use mathlib.Core.Bool.{cond}
 use mathlib.Core.List.{List, [], _∷_}
 use native.Mathlib.Omega.{arith}
-use native.Mathlib.Nat.{add-zero}
-use native.Mathlib.Numerals.{add-one}
-use borrow.Author.Tests.{ltb-true, ltb-false, leb-true, leb-false, eqb-true, eqb-false, eq-eqb, ne-eqb}
+use native.Mathlib.Nat.{add-zero, suc-mul, mul-le-mul-left}
+use borrow.Author.Tests.{ltb-false, le-ltb, leb-false, eqb-true, eqb-false, eq-eqb, ne-eqb}
 use lib.Dec.{ltb, leb, eqb}
 use lib.ListN.{length, getD, List·getD-eq-default}
 use Rattle.refusal.specs.Numbers.{fine}
@@ -15,8 +14,9 @@ use Rattle.frame.specs.Field.{bigAt}
 use Rattle.frame.proofs.HexLaws.{by-test, length-unhex}
 use Rattle.unit.specs.Unit.{classN, classM}
 use Rattle.frame.specs.Hex.{unhex}
-use Rattle.alphabet.specs.Table35.{codeOfN}
+use Rattle.alphabet.specs.Table35.{sizeOf, codeOfN}
 use Rattle.block.specs.Edits.{substitution, deletion, edit, widthOf, editAt, editsAt, nextOffset, deletionRefusal, editRefusal, Sound}
+use Rattle.block.specs.Segment.{mostEdits}
 use Rattle.block.specs.declared.edit.Edit.{Edit}
 
 -- ---- an offset is its two bytes
@@ -54,10 +54,6 @@ module _ (alphabet : ℕ) (s : List ℕ) (at a b : ℕ) (high : a ≡ getD s at 
   pub edit-i : (class k y : ℕ) → (class ≡ classN → ⊥) → (class ≡ classM → ⊥) → k ≡ getD s (at + 2) 0 → y ≡ getD s (at + 3) 0 → edit (a * 256 + b) k y ≡ editAt class alphabet s at
   unfolding editAt
   edit-i class k y g h e f = rw (ne-eqb _ _ g, ne-eqb _ _ h, offset-bytes s at, ← high, ← low, e, f)
-
-pub code-n-lt : {y : ℕ} (alphabet : ℕ) → y ≡ codeOfN alphabet → y < 256
-unfolding codeOfN
-code-n-lt alphabet e = by-test (eqb alphabet 0) (λ t. rw (e, t) (omega arith)) (λ t. rw (e, t) (omega arith))
 
 -- ---- the offset after an edit
 
@@ -137,8 +133,50 @@ pub sound-tail : (mapped symbols next : ℕ) (e : Edit) (es : List Edit) → Sou
 unfolding Sound
 sound-tail mapped symbols next e es p = p .1
 
+-- the first of them is accepted
+pub sound-accepted : (mapped symbols next : ℕ) (e : Edit) (es : List Edit) → Sound mapped symbols next (e ∷ es) → Accepted mapped symbols next e
+sound-accepted mapped symbols next e es p = accepted mapped symbols next e (sound-head mapped symbols next e es p)
+
+-- past the frame's end every edit reads alike
+edit-past : (class alphabet : ℕ) (l : List ℕ) (a b : ℕ) → length l / 2 ≤ a → length l / 2 ≤ b → editAt class alphabet (unhex l) a ≡ editAt class alphabet (unhex l) b
+edit-past class alphabet l a b h k =
+    edit-inside class alphabet l a {here = length l / 2} (rw (le-ltb a (length l / 2) h))
+    ∙ sym (edit-inside class alphabet l b {here = length l / 2} (rw (le-ltb b (length l / 2) k)))
+
+pub edits-past : (class alphabet : ℕ) (l : List ℕ) (k a b : ℕ) → length l / 2 ≤ a → length l / 2 ≤ b → editsAt class alphabet (unhex l) k a ≡ editsAt class alphabet (unhex l) k b
+unfolding editsAt
+edits-past class alphabet l zero a b h j = refl
+edits-past class alphabet l (suc k) a b h j = rw (edit-past class alphabet l a b h j, edits-past class alphabet l k (a + widthOf class) (b + widthOf class) (omega arith) (omega arith))
+
 -- ---- how wide an edit is
 
 pub width-most : (class : ℕ) → widthOf class ≤ 4
 unfolding widthOf
 width-most class = by-test (eqb class classN) (λ t. simp t (omega arith)) (λ t. by-test (eqb class classM) (λ u. simp (t, u) (omega arith)) (λ u. simp (t, u) (omega arith)))
+
+-- so many edits are so many bytes
+pub edits-bytes : (class count : ℕ) → count ≤ mostEdits → count * widthOf class ≤ 4 * mostEdits
+edits-bytes class count h = omega (arith, mul-le-mul-left count (width-most class))
+
+-- so many times, and one time more
+times-less : (k n : ℕ) → 0 < k → k * n ≡ n + (k - 1) * n
+times-less zero n h = absurd (omega arith)
+times-less (suc k) n h = let p : suc k - 1 ≡ k = omega arith in rw p (omega (arith, suc-mul k n))
+
+-- the frame has the next edit, and the others behind it
+pub framed-on : (frame : List ℕ) (class at k step : ℕ) → at + k * widthOf class ≤ length frame → step ≡ widthOf class → 0 < k
+    → (at + step ≤ length frame) × (at + step + (k - 1) * widthOf class ≤ length frame)
+framed-on frame class at k step h q more = let e = times-less k (widthOf class) more in (omega arith, omega arith)
+
+-- ---- a turn of a loop over edits
+
+module _ (class alphabet : ℕ) (frame : List ℕ) (mapped k at step : ℕ) (e : Edit) (wide : step ≡ widthOf class) (it : e ≡ editAt class alphabet frame at) (more : 0 < k) where
+  pub list-on : editsAt class alphabet frame k at ≡ e ∷ editsAt class alphabet frame (k - 1) (at + step)
+  list-on = edits-on class alphabet frame k at e it more ∙ rw wide
+
+  pub accepted-on : (next : ℕ) → Sound mapped (sizeOf alphabet) next (editsAt class alphabet frame k at) → Accepted mapped (sizeOf alphabet) next e
+  accepted-on next s = sound-accepted mapped (sizeOf alphabet) next e (editsAt class alphabet frame (k - 1) (at + step)) (rw list-on at s)
+
+  pub sound-on : (next : ℕ) → Sound mapped (sizeOf alphabet) next (editsAt class alphabet frame k at)
+      → Sound mapped (sizeOf alphabet) (nextOffset e) (editsAt class alphabet frame (k - 1) (at + step))
+  sound-on next s = sound-tail mapped (sizeOf alphabet) next e (editsAt class alphabet frame (k - 1) (at + step)) (rw list-on at s)

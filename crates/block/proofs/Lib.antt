@@ -1,2 +1,3 @@
 pub mod EditLaws
 pub mod Unique
+pub mod RefusalLaws

@@ -1,12 +1,11 @@
--- The laws of the two files' readers: what they refuse has a number below 17, and what they accept is as a listing needs it.
+-- The laws of the two files' readers: what they refuse has a number of the table but 17, and what they accept is as a listing needs it.
 -- Assumes nothing.
-use Prim.Native.Nat.{ℕ, _+_, _*_, _<_, _≤_}
+use Prim.Native.Nat.{ℕ, _+_, _≤_}
 use native.Mathlib.Omega.{arith}
 use mathlib.Core.Path.{_≡_, refl, sym, ap}
 use mathlib.Core.List.{List, [], _∷_, _++_}
-use lib.Dec.{lit<, ltb, eqb}
 use lib.ListN.{length}
-use Rattle.refusal.specs.Numbers.{noRoom}
+use Rattle.refusal.specs.Numbers.{Early}
 use Rattle.frame.specs.Hex.{unhex}
 use Rattle.frame.specs.Line.{lineOf}
 use Rattle.frame.specs.Field.{bigAt, fieldAt}
@@ -28,101 +27,11 @@ use Rattle.preface.specs.declared.reference_line.ReferenceLine.the-variants as 
 use Rattle.unit.proofs.ValidLaws.{valid-is}
 use Rattle.preface.proofs.UnitLaws.{unit-accepted, unit-valid}
 use Rattle.preface.proofs.PairLaws.{pair-accepted, length-symbols}
-use Rattle.pairing.proofs.Taking.{by-test, one-of}
+use Rattle.preface.proofs.RefusalLaws.{UnitLow, unit-low, PairLow, pair-low, ReferenceLow, reference-low}
 use Rattle.listing.specs.Record.{FirstLine}
 use Rattle.listing.specs.Files.{Read, good, wrong}
 use Rattle.listing.proofs.ResumeLaws.{first-line}
 use Rattle.decoder.specs.Files.{afterBases, basesFrom, readReference, unitBy, readUnit, symbolsBy, readPair}
-
--- ---- the numbers of refusals
-
--- of a unit line
-abbrev UnitLow : UnitLine → Type 0
-UnitLow r = unitNumber r < noRoom
-
-ends-low : (s : List ℕ) (at class alphabet segments sequence first : ℕ) → UnitLow (unitEnds s at class alphabet segments sequence first)
-unfolding unitEnds
-ends-low s at class alphabet segments sequence first =
-    of-field UnitLow (fieldAt 4 s at) _ _ (lit< tt)
-    (λ start d. of-field UnitLow (fieldAt 4 s (d .at)) _ _ (lit< tt)
-    (λ end e. one-of UnitLow (ltb end start) _ _ (lit< tt)
-    (of-field UnitLow (fieldAt 2 s (e .at)) _ _ (lit< tt)
-    (λ records f. one-of UnitLow (ltb mostRecords records) _ _ (lit< tt)
-    (one-of UnitLow (ltb (f .at) (length s)) _ _ (lit< tt) (lit< tt))))))
-
-template-low : (s : List ℕ) (at class alphabet : ℕ) → UnitLow (unitTemplate s at class alphabet)
-unfolding unitTemplate
-template-low s at class alphabet =
-    of-field UnitLow (fieldAt 1 s at) _ _ (lit< tt)
-    (λ segments d. one-of UnitLow (ltb mostSegments segments) _ _ (lit< tt)
-    (one-of UnitLow (ltb segments (leastSegments class)) _ _ (lit< tt)
-    (of-field UnitLow (fieldAt 2 s (d .at)) _ _ (lit< tt)
-    (λ sequence e. of-field UnitLow (fieldAt 4 s (e .at)) _ _ (lit< tt)
-    (λ first f. ends-low s (f .at) class alphabet segments sequence first)))))
-
-class-low : (s : List ℕ) (at : ℕ) → UnitLow (unitClass s at)
-unfolding unitClass
-class-low s at =
-    of-field UnitLow (fieldAt 1 s at) _ _ (lit< tt)
-    (λ class d. one-of UnitLow (ltb class classP) _ _ (lit< tt)
-    (one-of UnitLow (ltb classU class) _ _ (lit< tt)
-    (of-field UnitLow (fieldAt 1 s (d .at)) _ _ (lit< tt)
-    (λ alphabet e. one-of UnitLow (ltb lastAlphabet alphabet) _ _ (lit< tt) (template-low s (e .at) class alphabet)))))
-
-unit-low : (line : List ℕ) → UnitLow (unitLine line)
-unfolding unitLine
-unit-low line =
-    of-line UnitLow (lineOf line) _ _ (lit< tt)
-    (of-field UnitLow (fieldAt 1 (unhex line) 0) _ _ (lit< tt)
-    (λ kind c. one-of UnitLow (eqb kind kindUnit) _ _ (class-low (unhex line) (c .at)) (lit< tt)))
-
--- of a pair line
-abbrev PairLow : PairLine → Type 0
-PairLow r = pairNumber r < noRoom
-
-symbols-low : (s : List ℕ) (count at : ℕ) → PairLow (pairSymbols s count at)
-unfolding pairSymbols
-symbols-low s count at =
-    one-of PairLow (ltb mostSymbols count) _ _ (lit< tt)
-    (one-of PairLow (eqb (at + symbolBytes * count) (length s)) _ _ (lit< tt) (lit< tt))
-
-count-low : (line : List ℕ) (number : ℕ) → PairLow (pairCount line number)
-unfolding pairCount
-count-low line number =
-    of-line PairLow (lineOf line) _ _ (lit< tt)
-    (of-field PairLow (fieldAt 1 (unhex line) 0) _ _ (lit< tt)
-    (λ kind c. one-of PairLow (eqb kind kindPair) _ _
-    (of-field PairLow (fieldAt 1 (unhex line) (c .at)) _ _ (lit< tt)
-    (λ sub d. one-of PairLow (eqb sub number) _ _
-    (of-field PairLow (fieldAt 2 (unhex line) (d .at)) _ _ (lit< tt) (λ count e. symbols-low (unhex line) count (e .at)))
-    (lit< tt)))
-    (lit< tt)))
-
-pair-low : (line : List ℕ) (number places : ℕ) → PairLow (pairLine line number places)
-unfolding pairLine
-pair-low line number places =
-    one-of PairLow (eqb places tableLength) _ _
-    (one-of PairLow (ltb number subsequences) _ _ (count-low line number) (lit< tt))
-    (lit< tt)
-
--- of a reference line, where as many places are lent as a reference may have: 17 is behind the limit itself
-abbrev ReferenceLow : ReferenceLine → Type 0
-ReferenceLow r = referenceNumber r < noRoom
-
-added-low : (n used : ℕ) → ReferenceLow (addedBases n used mostReference)
-unfolding addedBases
-added-low n used =
-    one-of ReferenceLow (ltb n 1) _ _ (lit< tt)
-    (one-of ReferenceLow (ltb mostLineBases n) _ _ (lit< tt)
-    (one-of ReferenceLow (ltb mostReference used) _ _ (lit< tt)
-    (by-test ReferenceLow (ltb mostReference (used + n)) _ _ (λ t. lit< tt) (λ t. rw t (lit< tt)))))
-
-reference-low : (line : List ℕ) (used : ℕ) → ReferenceLow (referenceLine line used mostReference)
-unfolding referenceLine
-reference-low line used =
-    of-line ReferenceLow (lineOf line) _ _ (lit< tt)
-    (of-field ReferenceLow (fieldAt 1 (unhex line) 0) _ _ (lit< tt)
-    (λ kind c. one-of ReferenceLow (eqb kind kindReference) _ _ (added-low _ used) (lit< tt)))
 
 -- ---- the readers
 
@@ -131,34 +40,34 @@ wrong-good e = absurd (let z : _≡_ {A = ℕ} 0 1 = cc in omega arith)
 
 -- what they refuse
 
-pub unit-refused : (line : List ℕ) (n : ℕ) → readUnit line ≡ wrong n → n < noRoom
+pub unit-refused : (line : List ℕ) (n : ℕ) → readUnit line ≡ wrong n → Early n
 unfolding readUnit
 unit-refused line n e = by (unitLine line) (unit-low line) e
   where
-    by : (r : UnitLine) → UnitLow r → unitBy r ≡ wrong n → n < noRoom
+    by : (r : UnitLine) → UnitLow r → unitBy r ≡ wrong n → Early n
     by (unit.Read u) h q = wrong-good q
     by (unit.Refused m) h q = let z : m ≡ n = cc in rw (← z) h
 
-pub pair-refused : (i : ℕ) (line : List ℕ) (n : ℕ) → readPair i line ≡ wrong n → n < noRoom
+pub pair-refused : (i : ℕ) (line : List ℕ) (n : ℕ) → readPair i line ≡ wrong n → Early n
 unfolding readPair
 pair-refused i line n e = by (pairLine line i tableLength) (pair-low line i tableLength) e
   where
-    by : (r : PairLine) → PairLow r → symbolsBy line r ≡ wrong n → n < noRoom
+    by : (r : PairLine) → PairLow r → symbolsBy line r ≡ wrong n → Early n
     by (pair.Count m) h q = wrong-good q
     by (pair.Refused m) h q = let z : m ≡ n = cc in rw (← z) h
 
-bases-refused : (bases : List ℕ) (ls : List (List ℕ)) (n : ℕ) → basesFrom bases ls ≡ wrong n → n < noRoom
+bases-refused : (bases : List ℕ) (ls : List (List ℕ)) (n : ℕ) → basesFrom bases ls ≡ wrong n → Early n
 unfolding basesFrom
 bases-refused bases [] n e = wrong-good e
 bases-refused bases (line ∷ ls) n e =
     by (referenceLine line (length bases) mostReference) (reference-low line (length bases)) e (bases-refused (bases ++ basesOf (unhex line)) ls n)
   where
     by : (r : ReferenceLine) → ReferenceLow r → afterBases r (basesFrom (bases ++ basesOf (unhex line)) ls) ≡ wrong n
-        → (basesFrom (bases ++ basesOf (unhex line)) ls ≡ wrong n → n < noRoom) → n < noRoom
+        → (basesFrom (bases ++ basesOf (unhex line)) ls ≡ wrong n → Early n) → Early n
     by (ref.Bases m) h q go = go q
     by (ref.Refused m) h q go = let z : m ≡ n = cc in rw (← z) h
 
-pub reference-refused : (ls : List (List ℕ)) (n : ℕ) → readReference ls ≡ wrong n → n < noRoom
+pub reference-refused : (ls : List (List ℕ)) (n : ℕ) → readReference ls ≡ wrong n → Early n
 reference-refused ls n = bases-refused [] ls n
 
 -- what they accept

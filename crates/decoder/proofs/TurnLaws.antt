@@ -1,17 +1,15 @@
 -- The laws of a turn's code: what was written at the front is what the turn prints, and the record call has room.
 -- Assumes nothing.
-use Prim.Native.Nat.{ℕ, suc, _+_, _*_, _<_, _≤_}
-use native.Mathlib.Numerals.{add-one}
+use Prim.Native.Nat.{ℕ, _+_, _*_, _<_, _≤_}
 use native.Mathlib.Omega.{arith}
-use mathlib.Core.Path.{_≡_, refl, ap, _∙_}
+use mathlib.Core.Path.{_≡_, ap, _∙_}
 use mathlib.Core.Bool.{Bool, true, false}
-use mathlib.Core.List.{List, [], _∷_, _++_, append-assoc}
+use mathlib.Core.List.{List, []}
 use mathlib.Core.Option.{Option, none, some}
-use lib.ListN.{length, drop}
+use lib.ListN.{length}
 use borrow.Author.Tests.{lt-ltb, le-ltb, eq-eqb, ne-eqb}
 use Rattle.refusal.specs.Numbers.{missing}
-use Rattle.frame.specs.Hex.{hexOf, be}
-use Rattle.frame.specs.Line.{lineEnd}
+use Rattle.frame.specs.Hex.{be}
 use Rattle.writing.specs.Whole.{wroteOf, lineInto}
 use Rattle.writing.specs.declared.lay.Wrote.{Wrote}
 use Rattle.frame.proofs.LineLaws.{lineOfBytes, length-line}
@@ -19,13 +17,14 @@ use Rattle.unit.specs.State.{subsequences}
 use Rattle.unit.specs.Listed.{mostListed, Step, refused, accepted}
 use Rattle.unit.specs.declared.Unit.{Unit}
 use Rattle.unit.specs.declared.State.{State}
-use Rattle.record.specs.Record.{stepOf, withRoom, recordOf, recorded, output}
+use Rattle.record.specs.Record.{stepOf, recordOf, recorded, output}
 use Rattle.record.specs.declared.Answer.the-variants.{Listed, Refused}
 use Rattle.record.specs.declared.Recorded.{Recorded}
-use Rattle.record.proofs.RecordLaws.{step-accepted}
+use Rattle.record.proofs.RecordLaws.{record-roomy}
 use Rattle.listing.specs.Lines.{same}
 use Rattle.listing.specs.Listing.{frame05, line05, frame06, line06, lastLine}
 use Rattle.listing.specs.Turn.{Turn, stop, stepTurn, recordTurn, lastTurn, turn}
+use Rattle.writing.proofs.WholeLaws.{front-line}
 use Rattle.decoder.specs.Turned.{lentLine, turnOf, turned, printedInto, stoppedBy, turnedOf, outputOf}
 use Rattle.decoder.specs.Decoder.{setupOf}
 use Rattle.decoder.specs.declared.Turned.{Turned}
@@ -36,9 +35,6 @@ abbrev pub Seen : State → List ℕ → Turn → Turned → List ℕ → Type 0
 Seen state out t r e = (r ≡ turned state t) × (e ≡ printedInto out t)
 
 -- ---- a line at the front of what is lent
-
-front-line : (out bs : List ℕ) → hexOf bs ++ lineEnd ∷ drop (suc (2 * length bs)) out ≡ lineOfBytes bs ++ drop (length (lineOfBytes bs)) out
-front-line out bs = rw (length-line bs, add-one, append-assoc)
 
 -- a last line: what the writer answered and wrote is what a stop prints
 stop-told : (out bs : List ℕ) (state : State) → 2 * length bs < length out → {w : Wrote} {r : Turned} {e : List ℕ} → (w ≡ wroteOf out bs) × (e ≡ lineInto out bs) → r ≡ stoppedBy w state
@@ -62,16 +58,6 @@ unfolding line06 be
 finish-told out count state room = stop-told out (frame06 count) state (omega arith)
 
 -- ---- the record call
-
--- it never answers 17 where the longest line has room
-with-room : (u : Unit) (reference symbols counts : List ℕ) (state : State) (line : List ℕ) (room : ℕ) → length (state .index) ≡ subsequences → mostListed < room
-    → recordOf u reference symbols counts state line room ≡ stepOf u reference symbols counts state line
-unfolding recordOf
-with-room u reference symbols counts state line room i h = by (stepOf u reference symbols counts state line) refl
-  where
-    by : (t : Step) → stepOf u reference symbols counts state line ≡ t → withRoom room t ≡ t
-    by (refused n) e = refl
-    by (accepted frame next) e = rw (lt-ltb (2 * length frame) room (omega (arith, step-accepted u reference symbols counts state line frame next e i .most)))
 
 -- an accepted record: its line is printed, and the listing goes on
 listed-step : (state : State) (out : List ℕ) (n : ℕ) (t : Step) (r : Recorded) (e : List ℕ) → r ≡ recorded state t → e ≡ output out t → r .answer ≡ Listed n
@@ -106,14 +92,14 @@ module _ (u : Unit) (reference symbols counts : List ℕ) (state : State) (line 
     pub record-listed : (n : ℕ) → r .answer ≡ Listed n → Seen state out wanted (record { added = Go n; state = r .state }) e
     unfolding lentLine
     record-listed n a =
-        let w = with-room u reference symbols counts state line (length out) eight room in
+        let w = record-roomy u reference symbols counts state line (length out) eight room in
         rw (ne-eqb (length line) 0 some-line)
         (listed-step state out n (stepOf u reference symbols counts state line) r e (was .0 ∙ ap (recorded state) w) (was .1 ∙ ap (output out) w) a)
 
     pub record-refused : (k : ℕ) → r .answer ≡ Refused k → {x : Turned} {g : List ℕ} → Seen state e (stop (line05 (state .number) k)) x g → Seen state out wanted x g
     unfolding lentLine
     record-refused k a s =
-        let w = with-room u reference symbols counts state line (length out) eight room in
+        let w = record-roomy u reference symbols counts state line (length out) eight room in
         rw (ne-eqb (length line) 0 some-line)
         (refused-step state out k (stepOf u reference symbols counts state line) r e (was .0 ∙ ap (recorded state) w) (was .1 ∙ ap (output out) w) a s)
 

@@ -6,8 +6,8 @@ use mathlib.Core.Logic.{inr}
 use mathlib.Core.List.{List, _∷_, _++_}
 use Prim.Native.Nat.{ℕ, zero, suc, _+_, _-_, _*_, _/_, _<_, _≤_}
 use native.Mathlib.Omega.{arith}
-use native.Mathlib.Nat.{suc-mul, zero-add}
-use borrow.Author.Tests.{lt-ltb, le-ltb, ltb-false, eq-eqb, ne-eqb, eqb-true, eqb-false}
+use native.Mathlib.Nat.{suc-mul, zero-mul, zero-add, add-zero}
+use borrow.Author.Tests.{lt-ltb, le-ltb, ltb-true, ltb-false, eq-eqb, ne-eqb, eqb-true, eqb-false}
 use lib.Dec.{ltb, eqb}
 use lib.ListN.{length, length-append}
 use Rattle.refusal.specs.Numbers.{fine, misframed}
@@ -147,10 +147,19 @@ refusal-fine class alphabet frame mapped next (suc k) at q =
     ((eqb-true _ _ b, r .0), λ h. omega (arith, suc-mul k (widthOf class), r .1 l)))
     (λ b. let z = simp (a, b) at q in absurd (eqb-false _ _ b z)))
 
+-- where there is an edit, it begins in the frame
+begin : (class alphabet : ℕ) (frame : List ℕ) (mapped next k at : ℕ) → editsRefusal class alphabet frame mapped next k at ≡ fine → 0 < k → at ≤ length frame
+unfolding editsRefusal
+begin class alphabet frame mapped next zero at q h = absurd (omega arith)
+begin class alphabet frame mapped next (suc k) at q h =
+    by-test (endsWithin frame at (widthOf class)) (λ a. let z = simp a at q in absurd (omega arith))
+    (λ a. omega (arith, ltb-false (length frame) (at + widthOf class) a))
+
 -- what `Fine taken text` says
 pub record IsFine (class alphabet : ℕ) (frame : List ℕ) (at count mapped positions characters : ℕ) : Type 0 where
   pub few : count ≤ mostEdits
   pub short : mapped ≤ mostRead
+  pub begun : 0 < count → at ≤ length frame
   pub framed : at ≤ length frame → at + count * widthOf class ≤ length frame
   pub sound : Sound mapped (sizeOf alphabet) 0 (editsAt class alphabet frame count at)
   pub taken : positions ≡ takenFrom mapped 0 (editsAt class alphabet frame count at)
@@ -166,8 +175,21 @@ checked-fine class alphabet frame at count mapped taken text q =
     (λ d.
     let p = simp (a, b, d) at q in
     let s = refusal-fine class alphabet frame mapped 0 count at (eqb-true _ _ d) in
-    record { few = ltb-false _ _ a; short = ltb-false _ _ b; framed = s .1; sound = s .0; taken = cc; text = cc })
+    record { few = ltb-false _ _ a; short = ltb-false _ _ b; begun = begin class alphabet frame mapped 0 count at (eqb-true _ _ d); framed = s .1; sound = s .0; taken = cc; text = cc })
     (λ d. never (simp (a, b, d) at q))))
   where
     never : {P : Type 0} {n : ℕ} → Refused n ≡ Fine taken text → P
     never e = absurd (let z : _≡_ {A = ℕ} 0 1 = cc in omega arith)
+
+-- where there is an edit, the frame has them all
+pub edits-inside : (class alphabet : ℕ) (frame : List ℕ) (at count mapped taken text : ℕ) → checkOf class alphabet frame at count mapped ≡ Fine taken text → 0 < count → at + count * widthOf class ≤ length frame
+edits-inside class alphabet frame at count mapped taken text q h =
+    let f = checked-fine class alphabet frame at count mapped taken text q in f .framed (f .begun h)
+
+-- the place behind the edits fits
+pub behind-fits : (class alphabet : ℕ) (frame : List ℕ) (at count mapped taken text most : ℕ) → checkOf class alphabet frame at count mapped ≡ Fine taken text
+    → at ≤ most → length frame ≤ most → at + count * widthOf class ≤ most
+behind-fits class alphabet frame at count mapped taken text most q h k =
+    by-test (ltb 0 count)
+    (λ t. omega (arith, edits-inside class alphabet frame at count mapped taken text q (ltb-true 0 count t)))
+    (λ t. let z : count ≡ 0 = omega (arith, ltb-false 0 count t) in rw (z, zero-mul, add-zero) h)

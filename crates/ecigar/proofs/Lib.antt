@@ -5,3 +5,5 @@ pub mod TextLaws
 pub mod Table93Laws
 pub mod Table92Laws
 pub mod OperationLaws
+pub mod RefusalLaws
+pub mod BytesLaws

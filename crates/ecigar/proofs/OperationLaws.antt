@@ -11,18 +11,22 @@ use borrow.Author.Tests.{eq-eqb, ne-eqb, eqb-true, eqb-false}
 use lib.Dec.{eqb}
 use lib.ListN.{length, length-append}
 use Rattle.frame.proofs.HexLaws.{by-test}
+use Rattle.writing.proofs.DecimalLaws.{digits-short}
 use Rattle.alphabet.specs.Table35.{sizeOf, letterOf}
-use Rattle.block.specs.Edits.{substitution, insertion, deletion, nextOffset, Sound, takenFrom}
+use Rattle.block.specs.Edits.{substitution, insertion, deletion, nextOffset, editsAt, Sound, takenFrom}
 use Rattle.block.specs.Segment.{mostRead, mostEdits, mostEcigar, softBases, mappedLength}
 use Rattle.block.specs.declared.edit.Edit.{Edit}
 use Rattle.block.specs.declared.Clips.{Clips}
 use Rattle.block.specs.declared.Segment.{Segment}
-use Rattle.block.proofs.EditLaws.{Accepted, accepted, sound-head, sound-tail, next-deletion, next-other, length-edits}
+use Rattle.block.proofs.EditLaws.{Accepted, sound-tail, next-deletion, next-other, length-edits, sound-accepted}
 use Rattle.ecigar.specs.declared.walk.Walk.{Walk}
-use Rattle.ecigar.specs.Table90.{Operation, matched, substituted, inserted, deleted, roundClose, squareClose, printed, movesRead, movesReference, total, AllPositive}
-use Rattle.ecigar.specs.Ecigar.{setOut, joinsRun, past, matches, openRun, gap, mark, ending, operationsFrom, operationsOf, ecigarOf, clip, leftClip, rightClip, segmentEdits, segmentOperations, ecigarText}
+use Rattle.ecigar.specs.Table90.{Operation, matched, substituted, inserted, deleted, roundClose, squareClose, printed, movesRead, movesReference, total, AllPositive, letter}
+use Rattle.ecigar.specs.Ecigar.{setOut, joinsRun, past, matches, openRun, gap, mark, ending, operationsFrom, operationsOf, ecigarOf, clip, leftClip, rightClip, segmentEdits, segmentOperations, ecigarText, closed, clipsLength}
 use Rattle.ecigar.proofs.PrintLaws.{digits-short, length-counted, length-printed}
+use Rattle.ecigar.specs.declared.check.Checked.the-variants.{Fine}
+use Rattle.ecigar.specs.Check.{checkOf}
 use Rattle.ecigar.proofs.WalkLaws.{Open, length-mark, ending-both, text-on, text-end, past-next, past-kind, past-open, past-joined, past-apart, joins-true, matches-most, closed-most, edit-most, clip-soft, clip-hard, clip-none}
+use Rattle.ecigar.proofs.CheckLaws.{checked-fine}
 use Rattle.ecigar.proofs.TextLaws.{length-text}
 
 -- ---- no count is 0
@@ -175,7 +179,7 @@ module _ (m : Operation → ℕ) (known : Moves m) where
   total-from alphabet mapped symbols left end on w [] s =
       rw (total-append m (openRun w) (matches (mapped - w .next)), total-matches (mapped - w .next), end (w .next))
   total-from alphabet mapped symbols left end on w (e ∷ es) s =
-      let a = accepted mapped symbols (w .next) e (sound-head mapped symbols (w .next) e es s) in
+      let a = sound-accepted mapped symbols (w .next) e es s in
       let n = past-next w e refl in
       let r : total m (operationsFrom alphabet mapped (past w e) es) ≡ total m (openRun (past w e)) + left (past w e .next) es =
       total-from alphabet mapped symbols left end on (past w e) es (rw n (sound-tail mapped symbols (w .next) e es s)) in
@@ -282,7 +286,7 @@ from-most : (alphabet mapped symbols : ℕ) (w : Walk) (es : List Edit) → Open
 from-most alphabet mapped symbols w [] o n s =
     omega (arith, ap length (text-end alphabet mapped w ∙ ending-both mapped w), length-append (printed (openRun w)) (printed (matches (mapped - w .next))), closed-most w o, matches-most (mapped - w .next))
 from-most alphabet mapped symbols w (e ∷ es) o n s =
-    let a = accepted mapped symbols (w .next) e (sound-head mapped symbols (w .next) e es s) in
+    let a = sound-accepted mapped symbols (w .next) e es s in
     let q = past-next w e refl in
     omega (
       arith,
@@ -314,6 +318,21 @@ pub record ClipsFit (c : Clips) : Type 0 where
   pub left-hard : c .«left_hard» < 2 ^ 16
   pub right-soft : c .«right_soft» < 2 ^ 16
   pub right-hard : c .«right_hard» < 2 ^ 16
+
+pub clips-most : (c : Clips) → ClipsFit c → clipsLength c ≤ 14
+unfolding clipsLength
+clips-most c f =
+    omega (
+      arith,
+      clip-most (c .«left_soft») (c .«left_hard») (f .left-soft) (f .left-hard),
+      clip-most (c .«right_soft») (c .«right_hard») (f .right-soft) (f .right-hard),
+    )
+
+-- the text of what the check accepts
+pub text-most : (class alphabet : ℕ) (frame : List ℕ) (at count mapped taken text : ℕ) → checkOf class alphabet frame at count mapped ≡ Fine taken text → text ≤ 2 * mostRead + 2 * mostEdits
+text-most class alphabet frame at count mapped taken text q =
+    let f = checked-fine class alphabet frame at count mapped taken text q in
+    omega (arith, f .text, f .few, f .short, edits-most alphabet mapped (sizeOf alphabet) (editsAt class alphabet frame count at) (f .sound), length-edits class alphabet frame count at)
 
 -- no E-CIGAR is longer than 4,014 characters (document 01)
 pub ecigar-most : (class alphabet : ℕ) (frame : List ℕ) (s : Segment) → s .edits ≤ mostEdits → s .length ≤ mostRead → ClipsFit (s .clips)

@@ -15,7 +15,7 @@ use Rattle.frame.proofs.HexLaws.{by-test}
 use Rattle.alphabet.specs.Table35.{letterOf}
 use Rattle.block.specs.Edits.{substitution, insertion, deletion, nextOffset, Sound}
 use Rattle.block.specs.declared.edit.Edit.{Edit}
-use Rattle.block.proofs.EditLaws.{Accepted, accepted, sound-head, sound-tail, next-deletion, next-other}
+use Rattle.block.proofs.EditLaws.{Accepted, accepted, sound-tail, next-deletion, next-other, sound-accepted}
 use Rattle.ecigar.specs.declared.walk.Walk.{Walk}
 use Rattle.ecigar.specs.Table90.{counted, equalsSign, plusSign, minusSign, printed}
 use Rattle.ecigar.specs.Ecigar.{setOut, joinsRun, past, matches, openRun, gap, mark, operationsFrom, offsetsOf, lettersIn, typesOf}
@@ -192,7 +192,7 @@ module _ (alphabet len symbols : ℕ) (es : List Edit) where
       ∙ rw (printed-append (gap w e) (mark alphabet e), gap-plain w e h) (append-assoc (printed (matches (e .offset - w .next))) (printed (mark alphabet e)) (still (past w e) rest))
 
   order : (next : ℕ) (e : Edit) (rest : List Edit) → Sound len symbols next (e ∷ rest) → Accepted len symbols next e
-  order next e rest s = accepted len symbols next e (sound-head len symbols next e rest s)
+  order next e rest s = sound-accepted len symbols next e rest s
 
   module _ (type more sign : ℕ) (known : Indel type more sign) where
     inner-end : Inner type more sign []

@@ -1,18 +1,17 @@
 -- The laws of writing a segment's text: each turn of the loop.
 -- Assumes nothing.
-use mathlib.Core.Path.{_≡_, _∙_}
-use mathlib.Core.List.{List, _∷_, _++_}
-use Prim.Native.Nat.{ℕ, zero, suc, _+_, _-_, _*_, _<_, _≤_}
+use mathlib.Core.Path.{_≡_}
+use mathlib.Core.List.{List, _++_}
+use Prim.Native.Nat.{ℕ, _+_, _-_, _*_, _<_, _≤_}
 use native.Mathlib.Omega.{arith}
-use native.Mathlib.Nat.{suc-mul}
 use lib.ListN.{length, length-append}
 use Rattle.writing.proofs.LayLaws.{Rest, rest-room}
 use Rattle.alphabet.specs.Table35.{sizeOf}
-use Rattle.block.specs.Edits.{widthOf, editAt, editsAt, nextOffset, Sound}
+use Rattle.block.specs.Edits.{widthOf, editAt, editsAt, Sound}
 use Rattle.block.specs.Segment.{mostEdits, mappedLength}
 use Rattle.block.specs.declared.edit.Edit.{Edit}
 use Rattle.block.specs.declared.Segment.{Segment}
-use Rattle.block.proofs.EditLaws.{Accepted, accepted, edits-on, edits-none, sound-head, sound-tail}
+use Rattle.block.proofs.EditLaws.{accepted, edits-none, list-on}
 use Rattle.ecigar.specs.declared.walk.Walk.{Walk}
 use Rattle.ecigar.specs.Table90.{printed}
 use Rattle.ecigar.specs.Ecigar.{past, gap, mark, ending, operationsFrom, operationsOf, ecigarOf, clipsLength, leftClip, rightClip, segmentEdits, segmentOperations, ecigarText}
@@ -22,32 +21,12 @@ use Rattle.ecigar.proofs.PrintLaws.{printed-append}
 use Rattle.ecigar.proofs.CheckLaws.{checked-fine}
 use Rattle.ecigar.proofs.WalkLaws.{text-on, text-end}
 
--- so many times, and one time more
-times-less : (k n : ℕ) → 0 < k → k * n ≡ n + (k - 1) * n
-times-less zero n h = absurd (omega arith)
-times-less (suc k) n h = let p : suc k - 1 ≡ k = omega arith in rw p (omega (arith, suc-mul k n))
-
--- the frame has the next edit, and the others behind it
-pub framed-on : (frame : List ℕ) (class at k step : ℕ) → at + k * widthOf class ≤ length frame → step ≡ widthOf class → 0 < k
-    → (at + step ≤ length frame) × (at + step + (k - 1) * widthOf class ≤ length frame)
-framed-on frame class at k step h q more = let e = times-less k (widthOf class) more in (omega arith, omega arith)
-
 -- ---- a turn of the loop
 
 module _ (class alphabet : ℕ) (frame : List ℕ) (mapped k at step : ℕ) (e : Edit) (wide : step ≡ widthOf class) (it : e ≡ editAt class alphabet frame at) (more : 0 < k) where
-  list-on : editsAt class alphabet frame k at ≡ e ∷ editsAt class alphabet frame (k - 1) (at + step)
-  list-on = edits-on class alphabet frame k at e it more ∙ rw wide
-
-  pub accepted-on : (next : ℕ) → Sound mapped (sizeOf alphabet) next (editsAt class alphabet frame k at) → Accepted mapped (sizeOf alphabet) next e
-  accepted-on next s = accepted mapped (sizeOf alphabet) next e (sound-head mapped (sizeOf alphabet) next e (editsAt class alphabet frame (k - 1) (at + step)) (rw list-on at s))
-
-  pub sound-on : (next : ℕ) → Sound mapped (sizeOf alphabet) next (editsAt class alphabet frame k at)
-      → Sound mapped (sizeOf alphabet) (nextOffset e) (editsAt class alphabet frame (k - 1) (at + step))
-  sound-on next s = sound-tail mapped (sizeOf alphabet) next e (editsAt class alphabet frame (k - 1) (at + step)) (rw list-on at s)
-
   pub ecigar-on : (w : Walk) → printed (operationsFrom alphabet mapped w (editsAt class alphabet frame k at))
       ≡ printed (gap w e ++ mark alphabet e) ++ printed (operationsFrom alphabet mapped (past w e) (editsAt class alphabet frame (k - 1) (at + step)))
-  ecigar-on w = rw list-on (text-on alphabet mapped w e (editsAt class alphabet frame (k - 1) (at + step)))
+  ecigar-on w = rw (list-on class alphabet frame mapped k at step e wide it more) (text-on alphabet mapped w e (editsAt class alphabet frame (k - 1) (at + step)))
 
   pub room-on : {l l₀ xs₀ : List ℕ} {p p₀ : ℕ} (w : Walk) → Rest l p (printed (operationsFrom alphabet mapped w (editsAt class alphabet frame k at))) l₀ p₀ xs₀
       → p₀ + 2 * length xs₀ ≤ length l₀ → p + 2 * length (printed (gap w e ++ mark alphabet e)) ≤ length l

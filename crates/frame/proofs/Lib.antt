@@ -6,3 +6,4 @@ pub mod NextLaws
 pub mod Unique
 pub mod StepLaws
 pub mod AnswerLaws
+pub mod Tests

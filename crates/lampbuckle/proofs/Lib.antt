@@ -8,3 +8,4 @@ pub mod Kept
 pub mod Again
 pub mod Shapes
 pub mod Unique
+pub mod Signs

@@ -1,10 +1,10 @@
 -- The laws of the front of the files: it is lawful where its readers are.
 -- Assumes nothing.
-use Prim.Native.Nat.{ℕ, zero, suc, _<_}
+use Prim.Native.Nat.{ℕ, zero, suc}
 use mathlib.Core.Path.{_≡_, refl}
 use mathlib.Core.List.{List, [], _∷_}
 use lib.Dec.{lit<}
-use Rattle.refusal.specs.Numbers.{noRoom}
+use Rattle.refusal.specs.Numbers.{Early}
 use Rattle.unit.specs.State.{subsequences}
 use Rattle.listing.specs.Lines.{linesOf}
 use Rattle.listing.specs.Record.{Setup, FirstLine, Lawful}
@@ -19,9 +19,9 @@ pub data All {Pair : Type 0} (Fine : Pair → Type 0) : ℕ → List Pair → Ty
 module _ {Ref Head Pair : Type 0} (readRef : List (List ℕ) → Read Ref) (readUnit : List ℕ → Read Head) (readPair : ℕ → List ℕ → Read Pair)
     (setup : Ref → Head → List ℕ → List Pair → List (List ℕ) → Setup)
     (Fine : Pair → Type 0)
-    (wrong-ref : (ls : List (List ℕ)) (n : ℕ) → readRef ls ≡ wrong n → n < noRoom)
-    (wrong-unit : (u : List ℕ) (n : ℕ) → readUnit u ≡ wrong n → n < noRoom)
-    (wrong-pair : (i : ℕ) (l : List ℕ) (n : ℕ) → readPair i l ≡ wrong n → n < noRoom)
+    (wrong-ref : (ls : List (List ℕ)) (n : ℕ) → readRef ls ≡ wrong n → Early n)
+    (wrong-unit : (u : List ℕ) (n : ℕ) → readUnit u ≡ wrong n → Early n)
+    (wrong-pair : (i : ℕ) (l : List ℕ) (n : ℕ) → readPair i l ≡ wrong n → Early n)
     (good-unit : (u : List ℕ) (h : Head) → readUnit u ≡ good h → FirstLine u)
     (good-pair : (i : ℕ) (l : List ℕ) (p : Pair) → readPair i l ≡ good p → Fine p)
     (lawful : (R : Ref) (u : List ℕ) (h : Head) → readUnit u ≡ good h → (ps : List Pair) (ls : List (List ℕ)) → All Fine subsequences ps → Lawful (setup R h u ps ls)) where
@@ -29,7 +29,7 @@ module _ {Ref Head Pair : Type 0} (readRef : List (List ℕ) → Read Ref) (read
       → ((ps : List Pair) (rest : List (List ℕ)) → All Fine k ps → Lawful (done ps rest)) → LawfulFront (pairs readRef readUnit readPair setup k i u ls done)
   unfolding LawfulFront pairs
   pairs-lawful zero i u w ls done h = h [] ls none
-  pairs-lawful (suc k) i u w [] done h = (w, lit< tt)
+  pairs-lawful (suc k) i u w [] done h = (w, (lit< tt, lit< tt))
   pairs-lawful (suc k) i u w (l ∷ ls) done h =
       by (readPair i l) refl (λ p f. pairs-lawful k (suc i) u w ls (λ ps rest. done (p ∷ ps) rest) (λ ps rest fs. h (p ∷ ps) rest (one f fs)))
     where
@@ -47,7 +47,7 @@ module _ {Ref Head Pair : Type 0} (readRef : List (List ℕ) → Read Ref) (read
       unit R u ls (wrong n) e = wrong-unit u n e
 
       lines : (R : Ref) (ls : List (List ℕ)) → LawfulFront (onLines readRef readUnit readPair setup R ls)
-      lines R [] = lit< tt
+      lines R [] = (lit< tt, lit< tt)
       lines R (u ∷ ls) = unit R u ls (readUnit u) refl
 
       by : (t : Read Ref) → readRef (linesOf refFile) ≡ t → LawfulFront (onRef readRef readUnit readPair setup unitFile t)

@@ -10,7 +10,7 @@ use lib.Dec.{leb, lit<, lit≤}
 use lib.ListN.{length, getD}
 use lib.Seq.{take-nil, take-append-le, take-append-add}
 use borrow.Author.Tests.{leb-true, leb-false}
-use Rattle.refusal.specs.Numbers.{missing, noRoom}
+use Rattle.refusal.specs.Numbers.{missing, noRoom, Early}
 use Rattle.frame.specs.Hex.{Bytes, unhex, be}
 use Rattle.frame.specs.Line.{lineDigits}
 use Rattle.frame.specs.declared.line.Line.the-variants.{Frame}
@@ -59,7 +59,7 @@ made-06 q = let a : q % 256 ≡ q / 1 % 256 = omega arith in rw a
 data Entry : List ℕ → Type 0 where
   unit-line : {l : List ℕ} → FirstLine l → Entry l
   listed-line : (bs : List ℕ) → Bytes bs → getD bs 0 0 ≡ kindListed → 2 * length bs ≤ mostListed → Entry (lineOfBytes bs)
-  refused-line : (q n : ℕ) → n < noRoom → Entry (line05 q n)
+  refused-line : (q n : ℕ) → Early n → Entry (line05 q n)
   done-line : (q : ℕ) → Entry (line06 q)
 
 each : {P Q : List ℕ → Type 0} → ((l : List ℕ) → P l → Q l) → {ls : List (List ℕ)} → Each P ls → Each Q ls
@@ -69,13 +69,13 @@ each f (one {l} h g) = one (f l h) (each f g)
 entry-last : (E : Setup) (s : State) (ls : List (List ℕ)) → Entry (lastLine E s ls)
 unfolding lastLine
 entry-last E s [] =
-    by-test (same (s .index) (E .counts)) (λ t. rw t (done-line (E .count))) (λ t. rw t (refused-line (E .count) missing (lit< tt)))
-entry-last E s (l ∷ ls) = refused-line (E .count) missing (lit< tt)
+    by-test (same (s .index) (E .counts)) (λ t. rw t (done-line (E .count))) (λ t. rw t (refused-line (E .count) missing (lit< tt, lit< tt)))
+entry-last E s (l ∷ ls) = refused-line (E .count) missing (lit< tt, lit< tt)
 
 entries-from : {E : Setup} → Lawful E → (k : ℕ) (s : State) (ls : List (List ℕ)) → length (s .index) ≡ subsequences → Each Entry (records E k s ls)
 unfolding records
 entries-from {E} w zero s ls i = one (entry-last E s ls) none
-entries-from {E} w (suc k) s [] i = one (refused-line (s .number) missing (lit< tt)) none
+entries-from {E} w (suc k) s [] i = one (refused-line (s .number) missing (lit< tt, lit< tt)) none
 entries-from {E} w (suc k) s (l ∷ ls) i = by (E .step s l) refl (λ u. entries-from w k u ls)
   where
     by : (t : Step) → E .step s l ≡ t → ((u : State) → length (u .index) ≡ subsequences → Each Entry (records E k u ls)) → Each Entry (onStep (s .number) t (λ u. records E k u ls))
@@ -150,7 +150,7 @@ number-05 q n = rw (unhex-05 q n) (omega arith)
 no-17 : (l : List ℕ) → Entry l → (q : ℕ) → l ≡ line05 q noRoom → ⊥
 no-17 l (unit-line w) q e = omega (arith, w .kind, ap (λ (x : List ℕ). getD (unhex x) 0 0) e, kind-05 q noRoom)
 no-17 l (listed-line bs b k m) q e = omega (arith, k, ap (λ (x : List ℕ). getD x 0 0) (sym (unhex-line bs b) ∙ ap unhex e), kind-05 q noRoom)
-no-17 l (refused-line r n h) q e = omega (arith, number-05 r n, number-05 q noRoom, ap (λ (x : List ℕ). getD (unhex x) 3 0) e)
+no-17 l (refused-line r n h) q e = omega (arith, h .1, number-05 r n, number-05 q noRoom, ap (λ (x : List ℕ). getD (unhex x) 3 0) e)
 no-17 l (done-line r) q e = omega (arith, closing-06 r .kind, kind-05 q noRoom, ap (λ (x : List ℕ). getD (unhex x) 0 0) e)
 
 pub listing-17 : (F : Front) → LawfulFront F → Each (λ l. (q : ℕ) → l ≡ line05 q noRoom → ⊥) (listed F)

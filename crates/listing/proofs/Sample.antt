@@ -8,7 +8,7 @@ use mathlib.Core.List.{List, [], _∷_, _++_}
 use lib.Dec.{ltb, lit≤}
 use lib.ListN.{length, getD, replicate, length-append}
 use borrow.Author.Tests.{ltb-true}
-use Rattle.refusal.specs.Numbers.{malformed, missing, noRoom, otherFirst, otherLast}
+use Rattle.refusal.specs.Numbers.{malformed, missing, otherFirst, otherLast, Early}
 use Rattle.frame.specs.Hex.{isDigit, glyph, nib, hexOf, unhex, allDigits, Bytes, be}
 use Rattle.frame.specs.Line.{lineWithin, lineOf}
 use Rattle.frame.specs.Field.{bigAt}
@@ -22,7 +22,8 @@ use Rattle.listing.specs.Lines.{pushByte, linesOf, joined, ends, keptWit
 use Rattle.unit.specs.Listed.{Step, refused, accepted, words, headOf}
 use Rattle.listing.specs.Record.{Setup, Accepted, FirstLine, Lawful}
 use Rattle.listing.proofs.ResumeLaws.{first-line}
-use Rattle.listing.proofs.WordLaws.{bytes-append, bytes-head, length-head}
+use Rattle.unit.proofs.ListedLaws.{bytes-head, length-head}
+use Rattle.frame.proofs.HexLaws.{bytes-append}
 use Rattle.listing.specs.Listing.{Front, ready, line05, lastLine, records, firstOf, restOf, listing}
 use Rattle.listing.specs.Resuming.{wordsAt, stateAt, listedLast, frameLast, lastOf, lastFrom, edgesOf, countOf, countsOf, place, Answer, add, refuse, skip, suppliedFrom, added, supply, supplied, torn}
 
@@ -91,10 +92,10 @@ toy-lawful ls =
       acceptance = λ s l frame next i e. right s l frame next (ltb (s .number) toyCount) refl (lineOf l) refl e;
     }
   where
-    wrong : (s : State) (l : List ℕ) (n : ℕ) (t : Bool) (u : Line) → cond t (onToy s u) (refused missing) ≡ refused n → n < noRoom
+    wrong : (s : State) (l : List ℕ) (n : ℕ) (t : Bool) (u : Line) → cond t (onToy s u) (refused missing) ≡ refused n → Early n
     wrong s l n true (Frame m) e = let z : _≡_ {A = ℕ} 0 1 = cc in absurd (omega arith)
-    wrong s l n true Malformed e = let z : n ≡ malformed = cc in omega arith
-    wrong s l n false u e = let z : n ≡ missing = cc in omega arith
+    wrong s l n true Malformed e = let z : n ≡ malformed = cc in (omega arith, omega arith)
+    wrong s l n false u e = let z : n ≡ missing = cc in (omega arith, omega arith)
 
     right : (s : State) (l frame : List ℕ) (next : State) (t : Bool) → ltb (s .number) toyCount ≡ t → (u : Line) → lineOf l ≡ u
         → cond t (onToy s u) (refused missing) ≡ accepted frame next → Accepted (toy ls) s l frame next

@@ -5,7 +5,7 @@ use mathlib.Core.Path.{_≡_}
 use mathlib.Core.Bool.{cond}
 use mathlib.Core.List.{List, [], _∷_, _++_}
 use lib.ListN.{getD}
-use Rattle.refusal.specs.Numbers.{missing, noRoom}
+use Rattle.refusal.specs.Numbers.{missing, Early}
 use Rattle.frame.specs.Hex.{unhex, be}
 use Rattle.frame.specs.Line.{lineWithin, lineOfBytes}
 use Rattle.frame.specs.Field.{bigAt}
@@ -79,8 +79,8 @@ listing F = joined (listed F)
 
 -- what the theorems ask of the front of the files
 unfoldable pub LawfulFront : Front → Type 0
-LawfulFront (alone n) = n < noRoom
-LawfulFront (unpaired first n) = FirstLine first × (n < noRoom)
+LawfulFront (alone n) = Early n
+LawfulFront (unpaired first n) = FirstLine first × Early n
 LawfulFront (ready E) = Lawful E
 
 -- the state after an accepted record, and what follows from it

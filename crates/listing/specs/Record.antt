@@ -4,7 +4,7 @@ use Prim.Native.Nat.{ℕ, _+_, _*_, _<_, _≤_}
 use mathlib.Core.Path.{_≡_}
 use mathlib.Core.List.{List, _++_}
 use lib.ListN.{length, getD}
-use Rattle.refusal.specs.Numbers.{noRoom}
+use Rattle.refusal.specs.Numbers.{Early}
 use Rattle.frame.specs.Hex.{Bytes, unhex}
 use Rattle.frame.specs.Line.{lineOf}
 use Rattle.frame.specs.declared.line.Line.the-variants.{Frame}
@@ -52,6 +52,6 @@ pub record Lawful (E : Setup) : Type 0 where
   pub count-fits : E .count ≤ mostRecords
   pub counts-all : length (E .counts) ≡ subsequences
   pub counts-fit : (i : ℕ) → getD (E .counts) i 0 ≤ mostSymbols
-  pub refusal : (s : State) (line : List ℕ) (n : ℕ) → length (s .index) ≡ subsequences → E .step s line ≡ refused n → n < noRoom
+  pub refusal : (s : State) (line : List ℕ) (n : ℕ) → length (s .index) ≡ subsequences → E .step s line ≡ refused n → Early n
   pub acceptance : (s : State) (line frame : List ℕ) (next : State) → length (s .index) ≡ subsequences → E .step s line ≡ accepted frame next
       → Accepted E s line frame next

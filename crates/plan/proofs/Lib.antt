@@ -1,7 +1,6 @@
 pub mod LentLaws
 pub mod Steps
 pub mod Unique
-pub mod BytesLaws
 pub mod RefusalLaws
 pub mod StateLaws
 pub mod PlanLaws

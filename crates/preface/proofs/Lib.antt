@@ -4,3 +4,4 @@ pub mod ReferenceLaws
 pub mod StoreLaws
 pub mod Examples
 pub mod Unique
+pub mod RefusalLaws

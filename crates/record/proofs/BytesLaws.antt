@@ -1,14 +1,13 @@
 -- The laws of an 04 line's bytes: how many there are, and that each is below 256.
 -- Assumes nothing.
-use mathlib.Core.Path.{_≡_, refl}
-use mathlib.Core.List.{List, [], _∷_, _++_, append-assoc}
+use mathlib.Core.Path.{_≡_}
+use mathlib.Core.List.{List, _++_, append-assoc}
 use Prim.Native.Nat.{ℕ, _+_, _*_}
 use native.Mathlib.Omega.{arith}
 use lib.ListN.{length, length-append}
 use Rattle.frame.specs.Hex.{Bytes, be}
 use Rattle.frame.proofs.HexLaws.{length-be, bytes-be, bytes-append}
-use Rattle.unit.specs.Kinds.{kindListed}
-use Rattle.unit.specs.Listed.{words, headOf}
+use Rattle.unit.specs.Listed.{headOf}
 use Rattle.unit.specs.declared.Unit.{Unit}
 use Rattle.unit.specs.declared.State.{State}
 use Rattle.pairing.specs.Table60.{mateSeqId, mappingPos}
@@ -16,36 +15,15 @@ use Rattle.pairing.specs.declared.Link.{Link}
 use Rattle.segment.specs.Part.{partBytes, partLength}
 use Rattle.plan.specs.Plan.{ReadyPlan}
 use Rattle.plan.specs.declared.read.Plan.{Plan}
-use Rattle.plan.proofs.BytesLaws.{bytes-part}
+use Rattle.segment.proofs.BytesLaws.{bytes-part}
+use Rattle.unit.proofs.ListedLaws.{length-head, bytes-head}
 use Rattle.record.specs.Record.{linkBytes, listedBytes}
 
--- ---- the head and the link
-
-length-words : (xs : List ℕ) → length (words xs) ≡ 2 * length xs
-unfolding words
-length-words [] = refl
-length-words (x ∷ xs) = omega (arith, length-append (be 2 x) (words xs), length-be 2 x, length-words xs)
-
-pub length-head : (number : ℕ) (next : State) → length (headOf number next) ≡ 3 + 2 * length (next .index)
-unfolding headOf
-length-head number next = simp (length-append, length-be, length-words)
+-- ---- the link
 
 pub length-link : (sequence pos : ℕ) (link : Link) → length (linkBytes sequence pos link) ≡ 9
 unfolding linkBytes
 length-link sequence pos link = simp (length-append, length-be)
-
-bytes-words : (xs : List ℕ) → Bytes (words xs)
-unfolding words Bytes
-bytes-words [] = tt
-bytes-words (x ∷ xs) = bytes-append (be 2 x) (words xs) (bytes-be 2 x) (bytes-words xs)
-
-bytes-head : (number : ℕ) (next : State) → Bytes (headOf number next)
-unfolding headOf
-bytes-head number next =
-    simp append-assoc
-    (bytes-append (be 1 kindListed) _ (bytes-be 1 kindListed)
-    (bytes-append (be 2 number) _ (bytes-be 2 number)
-    (bytes-words (next .index))))
 
 bytes-link : (sequence pos : ℕ) (link : Link) → Bytes (linkBytes sequence pos link)
 unfolding linkBytes

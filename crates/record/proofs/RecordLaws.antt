@@ -1,4 +1,4 @@
--- The laws of the record call: its refusals are numbers of the table below 17, and what an accepted line says of the 04 line and the next state.
+-- The laws of the record call: its refusals are numbers of the table but 17, and what an accepted line says of the 04 line and the next state.
 -- Assumes nothing.
 use mathlib.Core.Path.{_≡_, refl, sym, ap, _∙_}
 use mathlib.Core.Logic.{⊎-elim}
@@ -9,7 +9,8 @@ use borrow.Author.Tests.{lt-ltb, eqb-true}
 use lib.Dec.{eqb}
 use lib.ListN.{length, take, getD, length-append}
 use lib.Seq.{length-take-le}
-use Rattle.refusal.specs.Numbers.{fine, noRoom}
+use Rattle.refusal.specs.Numbers.{fine, Early}
+use Rattle.refusal.proofs.RefusalLaws.{by-number}
 use Rattle.frame.specs.Hex.{Bytes, unhex}
 use Rattle.frame.specs.Line.{lineDigits, lineEnd, lineOf, lineWithin}
 use Rattle.frame.specs.declared.line.Line.the-variants.{Frame, Malformed}
@@ -23,7 +24,6 @@ use Rattle.unit.specs.declared.State.{State}
 use Rattle.pairing.specs.Table60.{mappingPos}
 use Rattle.pairing.specs.Pairing.{pairOf}
 use Rattle.pairing.specs.declared.Link.{Link}
-use Rattle.pairing.proofs.Taking.{one-of}
 use Rattle.pairing.proofs.Laws.{pair-follows, pair-within}
 use Rattle.segment.specs.declared.part.Placed.{Placed}
 use Rattle.segment.specs.declared.part.Part.the-variants.{Aligned}
@@ -37,8 +37,9 @@ use Rattle.plan.specs.declared.read.Planned.the-variants.{Whole, Refused}
 use Rattle.plan.proofs.PlanLaws.{plan-taken, first-aligned, second-aligned}
 use Rattle.plan.proofs.RefusalLaws.{EarlyPlan, lent-early, plan-early}
 use Rattle.plan.proofs.StateLaws.{LentTaken, lent-taken}
-use Rattle.record.specs.Record.{linkBytes, listedBytes, after, stepBy, stepOf, withRoom, recordOf}
+use Rattle.record.specs.Record.{linkBytes, listedBytes, after, stepBy, stepOf, withRoom, recordOf, planned}
 use Rattle.record.proofs.BytesLaws.{tailBytes, listed-head, bytes-listed, length-listed, length-head, length-link}
+use Rattle.unit.proofs.ListedLaws.{length-head}
 
 -- exactly so many bytes stand before the segments
 pub least-listed : (number sequence pos : ℕ) (next : State) (link : Link) → length (next .index) ≡ subsequences → length (headOf number next ++ linkBytes sequence pos link) ≡ leastListed
@@ -47,23 +48,22 @@ least-listed number sequence pos next link h = simp (length-append, length-head,
 -- ---- a refusal
 
 abbrev EarlyStep : Step → Type 0
-EarlyStep (refused n) = n < noRoom
+EarlyStep (refused n) = Early n
 EarlyStep (accepted frame next) = Unit
 
 module _ (u : UnitOf) (reference symbols counts : List ℕ) (state : State) (line : List ℕ) where
   step-early : EarlyStep (stepOf u reference symbols counts state line)
   unfolding stepOf
   step-early =
-      one-of EarlyStep (eqb (lentRefusal u (length reference) (length symbols) counts state) fine) _ _
-      (by (planOf u reference symbols counts state line .planned) (plan-early u reference symbols counts state line))
-      (lent-early u (length reference) (length symbols) counts state)
+      by-number EarlyStep (lentRefusal u (length reference) (length symbols) counts state) _ _ (lent-early u (length reference) (length symbols) counts state)
+      (by (planOf u reference symbols counts state line .planned) (plan-early u reference symbols counts state line)) (λ h. h)
     where
       by : (x : Planned) → EarlyPlan x → EarlyStep (stepBy u reference (unhex line) state (planOf u reference symbols counts state line .state) x)
       by (Whole p) h = tt
       by (Refused n) h = h
 
   -- every refusal is a number of the table before 17
-  pub step-refusal : (n : ℕ) → stepOf u reference symbols counts state line ≡ refused n → n < noRoom
+  pub step-refusal : (n : ℕ) → stepOf u reference symbols counts state line ≡ refused n → Early n
   step-refusal n e = rw e at step-early
 
 -- ---- an accepted line

@@ -1,7 +1,7 @@
 -- Document 01's table of refusal numbers, row by row.
 -- Assumes nothing.
 use mathlib.Core.Bool.{cond}
-use Prim.Native.Nat.{ℕ}
+use Prim.Native.Nat.{ℕ, _<_, _≤_}
 use lib.Dec.{eqb}
 
 -- nothing is refused
@@ -79,3 +79,17 @@ otherLast = 16
 -- lent output shorter than the line with its 0A
 abbrev pub noRoom : ℕ
 noRoom = 17
+
+-- ---- what is said of an answer's number
+
+-- a number of the table
+abbrev pub Refusal : ℕ → Type 0
+Refusal n = (fine < n) × (n ≤ noRoom)
+
+-- one that is not its last, 17
+abbrev pub Early : ℕ → Type 0
+Early n = (fine < n) × (n < noRoom)
+
+-- nothing is refused, or it is by such a number
+abbrev pub FineOrEarly : ℕ → Type 0
+FineOrEarly n = n < noRoom

@@ -1,5 +1,4 @@
 pub mod Steps
-pub mod AlignedLaws
 pub mod PlaceLaws
 pub mod SymbolLaws
 pub mod WriteLaws
@@ -7,3 +6,5 @@ pub mod ReadyLaws
 pub mod PartLaws
 pub mod StandardLaws
 pub mod Unique
+pub mod RefusalLaws
+pub mod BytesLaws

@@ -39,7 +39,7 @@ use Rattle.segment.specs.declared.part.PartRead.{PartRead}
 use Rattle.segment.specs.declared.part.PartRead.the-variants.{Whole, Refused}
 use Rattle.segment.proofs.PlaceLaws.{Inside, place-inside}
 use Rattle.segment.proofs.ReadyLaws.{ReadyBlock, block-ready, length-got, symbols-got}
-use Rattle.segment.proofs.WriteLaws.{length-letters}
+use Rattle.bases.proofs.ReferenceLaws.{length-letters}
 
 -- what is known of a part that was accepted, and of the place behind its block
 pub record Taken (u : Unit) (reference frame : List ℕ) (p : Part) (next : ℕ) : Type 0 where

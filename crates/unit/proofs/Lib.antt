@@ -1,3 +1,5 @@
 pub mod ValidLaws
 pub mod Unique
 pub mod StateLaws
+pub mod RefusalLaws
+pub mod ListedLaws

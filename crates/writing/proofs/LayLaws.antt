@@ -104,6 +104,10 @@ pub record Rest (l : List ℕ) (p : ℕ) (xs : List ℕ) (l₀ : List ℕ) (p₀
 pub rest-start : (l : List ℕ) (p : ℕ) (xs : List ℕ) → Rest l p xs l p xs
 rest-start l p xs = record { size = refl; text = refl; long = refl }
 
+-- a loop starts on the same bytes under another name
+pub rest-from : (l : List ℕ) (p : ℕ) {xs ys : List ℕ} → xs ≡ ys → Rest l p xs l p ys
+rest-from l p e = rw e (rest-start l p _)
+
 -- one piece is written
 pub rest-put : {l m l₀ : List ℕ} {p q p₀ : ℕ} {xs ys zs xs₀ : List ℕ} → Rest l p zs l₀ p₀ xs₀ → zs ≡ xs ++ ys → Laid l m p q xs → Rest m q ys l₀ p₀ xs₀
 rest-put {l} {m} {l₀} {p} {q} {p₀} {xs} {ys} {zs} {xs₀} r e f =

@@ -1,7 +1,8 @@
 -- `block::edit::edit_at` meets its contract: the place stands for itself or for the frame's end, `edit-inside`, and the bytes there are the edit of the class. Assumes nothing.
 use mathlib.Core.Path.{sym, _∙_}
 use native.Mathlib.Omega.{arith}
-use Rattle.block.proofs.EditLaws.{edit-inside, edit-n, edit-m, edit-i, code-n-lt}
+use Rattle.block.proofs.EditLaws.{edit-inside, edit-n, edit-m, edit-i}
+use Rattle.alphabet.proofs.AlphabetLaws.{code-n-lt}
 use borrow.Author.Needs.{needs}
 use Rattle.block.proofs.edit.edit_at.Statement.{statement}
 use Rattle.block.proofs.edit.edit_at.Tie as tie

@@ -3,7 +3,7 @@ use borrow.Author.Needs.{needs}
 use native.Mathlib.Omega.{arith}
 use mathlib.Core.Path.{ap}
 use Prim.Native.Nat.{ℕ, _+_}
-use Rattle.ecigar.proofs.PrintLaws.{digits-wide}
+use Rattle.writing.proofs.DecimalLaws.{digits-wide}
 use Rattle.ecigar.proofs.check.count_len.Statement.{statement}
 use Rattle.ecigar.proofs.check.count_len.Tie as tie
 

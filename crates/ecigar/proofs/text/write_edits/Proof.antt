@@ -2,7 +2,8 @@
 use native.Mathlib.Omega.{arith}
 use mathlib.Core.Path.{_∙_}
 use Rattle.ecigar.proofs.WalkLaws.{past-next, past-run}
-use Rattle.ecigar.proofs.TextLaws.{framed-on, accepted-on, sound-on, ecigar-on, room-on, ecigar-end, Writing}
+use Rattle.ecigar.proofs.TextLaws.{ecigar-on, room-on, ecigar-end, Writing}
+use Rattle.block.proofs.EditLaws.{framed-on, accepted-on, sound-on}
 use Rattle.writing.proofs.LayLaws.{rest-start, rest-put, rest-room-end, rest-end}
 use Rattle.frame.proofs.HexLaws.{length-unhex}
 use Rattle.frame.specs.Hex.{unhex}

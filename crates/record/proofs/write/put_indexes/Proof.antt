@@ -8,7 +8,7 @@ use lib.ListN.{length, drop}
 use Rattle.writing.proofs.LayLaws.{Rest, rest-start, rest-put, rest-done}
 use Rattle.unit.specs.Listed.{words}
 use Rattle.unit.specs.State.{subsequences}
-use Rattle.record.proofs.WriteLaws.{words-on, words-end, words-room}
+use Rattle.unit.proofs.ListedLaws.{words-on, words-end, words-room}
 use borrow.Author.Needs.{needs}
 use Rattle.record.proofs.write.put_indexes.Statement.{statement}
 use Rattle.record.proofs.write.put_indexes.Tie as tie

@@ -6,7 +6,7 @@ use lib.ListN.{length}
 use Rattle.writing.proofs.LayLaws.{laid-then, laid-be}
 use Rattle.record.specs.Record.{linkBytes}
 use Rattle.record.proofs.BytesLaws.{length-link}
-use Rattle.record.proofs.WriteLaws.{be-low}
+use Rattle.frame.proofs.HexLaws.{be-low}
 use borrow.Author.Needs.{needs}
 use Rattle.record.proofs.write.put_link.Statement.{statement}
 use Rattle.record.proofs.write.put_link.Tie as tie

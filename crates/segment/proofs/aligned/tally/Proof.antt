@@ -5,9 +5,9 @@ use Rattle.frame.proofs.HexLaws.{length-unhex}
 use mathlib.Core.Path.{refl, sym, _∙_}
 use native.Mathlib.Omega.{arith}
 use Rattle.segment.proofs.Steps.{edited, unedited}
-use Rattle.segment.proofs.AlignedLaws.{edits-bytes, behind-fits, clips-most, text-most}
-use Rattle.ecigar.proofs.OperationLaws.{ClipsFit}
-use Rattle.ecigar.proofs.CheckLaws.{checked-fine}
+use Rattle.block.proofs.EditLaws.{edits-bytes}
+use Rattle.ecigar.proofs.OperationLaws.{ClipsFit, clips-most, text-most}
+use Rattle.ecigar.proofs.CheckLaws.{checked-fine, behind-fits}
 use Rattle.segment.specs.Aligned.{tallied}
 use borrow.Author.Needs.{needs}
 use Rattle.segment.proofs.aligned.tally.Statement.{statement}

@@ -6,7 +6,8 @@ use denote.Ref.{now}
 use lib.ListN.{length, length-append}
 use Rattle.frame.proofs.HexLaws.{length-unhex, length-be}
 use Rattle.writing.proofs.LayLaws.{laid-then, laid-be, length-laid}
-use Rattle.segment.proofs.WriteLaws.{so-many, length-letters}
+use Rattle.segment.proofs.WriteLaws.{so-many}
+use Rattle.bases.proofs.ReferenceLaws.{length-letters}
 use Rattle.segment.specs.Part.{unalignedBytes}
 use borrow.Author.Needs.{needs}
 use Rattle.segment.proofs.write.write_unaligned.Statement.{statement}

@@ -1,0 +1,35 @@
+-- The laws of the check's refusals: each is a number of the table but 17.
+-- Assumes nothing.
+use mathlib.Core.List.{List}
+use Prim.Native.Nat.{ℕ, zero, suc, _+_}
+use lib.Dec.{ltb, eqb, lit<}
+use Rattle.refusal.specs.Numbers.{fine, Early, FineOrEarly}
+use Rattle.refusal.proofs.RefusalLaws.{by-number}
+use Rattle.frame.proofs.Tests.{one-of}
+use Rattle.alphabet.specs.Table35.{sizeOf}
+use Rattle.block.specs.Segment.{mostRead, mostEdits}
+use Rattle.block.specs.Edits.{widthOf, editAt, nextOffset, editRefusal}
+use Rattle.block.proofs.RefusalLaws.{edit-early}
+use Rattle.ecigar.specs.Check.{endsWithin, editsRefusal, answered, editsChecked, checkOf}
+use Rattle.ecigar.specs.declared.check.Checked.{Checked}
+use Rattle.ecigar.specs.declared.check.Checked.the-variants.{Fine, Refused}
+
+abbrev pub EarlyEdits : Checked → Type 0
+EarlyEdits (Fine taken text) = Unit
+EarlyEdits (Refused n) = Early n
+
+edits-early : (class alphabet : ℕ) (frame : List ℕ) (mapped next k at : ℕ) → FineOrEarly (editsRefusal class alphabet frame mapped next k at)
+unfolding editsRefusal
+edits-early class alphabet frame mapped next zero at = lit< tt
+edits-early class alphabet frame mapped next (suc k) at =
+    let e = editAt class alphabet frame at in
+    let own = edit-early mapped (sizeOf alphabet) next e in
+    one-of FineOrEarly (endsWithin frame at (widthOf class)) _ _ (lit< tt)
+    (one-of FineOrEarly (eqb (editRefusal mapped (sizeOf alphabet) next e) fine) _ _ (edits-early class alphabet frame mapped (nextOffset e) k (at + widthOf class)) own)
+
+pub check-early : (class alphabet : ℕ) (frame : List ℕ) (at count mapped : ℕ) → EarlyEdits (checkOf class alphabet frame at count mapped)
+unfolding checkOf editsChecked answered
+check-early class alphabet frame at count mapped =
+    one-of EarlyEdits (ltb mostEdits count) _ _ (lit< tt, lit< tt)
+    (one-of EarlyEdits (ltb mostRead mapped) _ _ (lit< tt, lit< tt)
+    (by-number EarlyEdits (editsRefusal class alphabet frame mapped 0 count at) _ _ (edits-early class alphabet frame mapped 0 count at) tt (λ h. h)))
