@@ -14,7 +14,7 @@ use Rattle.refusal.specs.Numbers.{fine, symbolOut}
 use Rattle.writing.specs.Lay.{lay, Laid}
 use Rattle.frame.proofs.HexLaws.{by-test}
 use Rattle.writing.proofs.LayLaws.{laid-as, laid-then, laid-room}
-use Rattle.alphabet.specs.Table35.{letterN, letterOf, sizeOf, digitsOf}
+use Rattle.alphabet.specs.Table35.{letterN, letterOf, sizeOf}
 use Rattle.alphabet.specs.Digits.{digitsOf}
 use Rattle.alphabet.proofs.AlphabetLaws.{digits-high, digits-low, letter-past}
 use Rattle.bases.specs.Reference.{isLent, baseAt, baseRefusal, firstOf, matchedBases, matchRefusal, least, lentBefore}

@@ -19,7 +19,6 @@ use Rattle.preface.proofs.PairLaws.{length-symbols, symbol-fits}
 use Rattle.preface.proofs.StoreLaws.{length-stored, stored-inside, stored-before, stored-behind}
 use Rattle.preface.proofs.UnitLaws.{UnitFits, unit-fits, unit-valid}
 use Rattle.pairing.specs.Table60.{mateSeqId, mappingPos}
-use Rattle.pairing.proofs.Cases.{sequence-within}
 use Rattle.pairing.proofs.Laws.{link-within}
 use Rattle.segment.specs.declared.part.Placed.{Placed}
 use Rattle.plan.specs.Plan.{planOf}
@@ -29,6 +28,7 @@ use Rattle.plan.specs.declared.read.Planned.the-variants.{Whole}
 use Rattle.plan.proofs.MateLaws.{mate-fits}
 use Rattle.record.proofs.RecordLaws.{said-taken, said-aligned}
 use Rattle.listing.specs.Files.{good}
+use Rattle.pairing.proofs.Cases.{sequence-within}
 use Rattle.decoder.specs.Files.{readPair, countsIn, rowsInto, emptyTable, tableOf}
 use Rattle.decoder.specs.Decoder.{Opened}
 use Rattle.decoder.specs.Symbols.{RecordLine}

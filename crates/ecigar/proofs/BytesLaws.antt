@@ -15,8 +15,8 @@ use Rattle.block.specs.Edits.{substitution, insertion, deletion}
 use Rattle.block.specs.Segment.{mappedLength}
 use Rattle.block.specs.declared.edit.Edit.{Edit}
 use Rattle.block.specs.declared.Segment.{Segment}
-use Rattle.ecigar.specs.Table90.{Operation, matched, letter, inserted, deleted, softClipped, hardClipped, counted, print, printed}
-use Rattle.ecigar.specs.Ecigar.{joinsRun, past, matches, closed, gap, mark, ending, operationsFrom, clip, leftClip, segmentOperations, segmentEdits, setOut, ecigarText}
+use Rattle.ecigar.specs.Table90.{Operation, matched, substituted, inserted, deleted, softClipped, hardClipped, counted, print, printed}
+use Rattle.ecigar.specs.Ecigar.{joinsRun, past, matches, openRun, gap, mark, ending, operationsFrom, clip, leftClip, segmentOperations, segmentEdits, setOut, ecigarText}
 use Rattle.ecigar.specs.declared.walk.Walk.{Walk}
 use Rattle.ecigar.proofs.PrintLaws.{printed-append, printed-one}
 
@@ -47,24 +47,24 @@ matches-print : (n : ℕ) → Prints (matches n)
 unfolding matches
 matches-print n = one-of Prints (eqb n 0) _ _ no-prints (one-prints (matched n) (bytes-counted n _ (lit< tt)))
 
-closed-prints : (w : Walk) → Prints (closed w)
-unfolding closed
+closed-prints : (w : Walk) → Prints (openRun w)
+unfolding openRun
 closed-prints w =
     one-of Prints (eqb (w .kind) insertion) _ _ (one-prints (inserted (w .run)) (bytes-counted _ _ (lit< tt)))
     (one-of Prints (eqb (w .kind) deletion) _ _ (one-prints (deleted (w .run)) (bytes-counted _ _ (lit< tt))) no-prints)
 
 gap-prints : (w : Walk) (e : Edit) → Prints (gap w e)
 unfolding gap
-gap-prints w e = one-of Prints (joinsRun w e) _ _ no-prints (both-print (closed w) _ (closed-prints w) (matches-print (e .offset - w .next)))
+gap-prints w e = one-of Prints (joinsRun w e) _ _ no-prints (both-print (openRun w) _ (closed-prints w) (matches-print (e .offset - w .next)))
 
 mark-prints : (alphabet : ℕ) (e : Edit) → Prints (mark alphabet e)
 unfolding mark
 mark-prints alphabet e =
-    one-of Prints (eqb (e .kind) substitution) _ _ (one-prints (letter (letterOf alphabet (e .symbol))) (bytes-one _ (letter-byte alphabet (e .symbol)))) no-prints
+    one-of Prints (eqb (e .kind) substitution) _ _ (one-prints (substituted (letterOf alphabet (e .symbol))) (bytes-one _ (letter-byte alphabet (e .symbol)))) no-prints
 
 operations-print : (alphabet mapped : ℕ) (w : Walk) (es : List Edit) → Prints (operationsFrom alphabet mapped w es)
 unfolding operationsFrom ending
-operations-print alphabet mapped w [] = both-print (closed w) _ (closed-prints w) (matches-print (mapped - w .next))
+operations-print alphabet mapped w [] = both-print (openRun w) _ (closed-prints w) (matches-print (mapped - w .next))
 operations-print alphabet mapped w (e ∷ es) =
     both-print (gap w e ++ mark alphabet e) _ (both-print (gap w e) _ (gap-prints w e) (mark-prints alphabet e)) (operations-print alphabet mapped (past w e) es)
 

@@ -16,7 +16,7 @@ use Rattle.bases.specs.Bases.{pastEdit, editBases, basesFrom, refusalFrom, lett
 use Rattle.bases.specs.Reference.{isLent, baseAt, baseRefusal, matchedBases, matchRefusal}
 use Rattle.block.specs.Edits.{widthOf, editAt, editsAt, nextOffset, deletionRefusal, editRefusal, takenFrom}
 use Rattle.ecigar.specs.Check.{editsRefusal, answered, editsChecked, checkOf}
-use Rattle.ecigar.specs.Ecigar.{joinsRun, past, matches, closed, gap, mark, ending, operationsFrom, clip, segmentOperations, ecigarText}
+use Rattle.ecigar.specs.Ecigar.{joinsRun, past, matches, gap, mark, ending, operationsFrom, clip, segmentOperations, ecigarText}
 use Rattle.ecigar.specs.Table90.{printed}
 use Rattle.writing.specs.Decimal.{decimalF, decimal}
 use Rattle.frame.specs.Field.{bigAt, fieldAt}

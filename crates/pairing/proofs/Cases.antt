@@ -139,3 +139,9 @@ table60-alone seqId code =
 pub HM-alone : Ends Any Alone HM-same-rec
 unfolding HM-same-rec
 HM-alone = λ v _ fits. refl
+
+-- the listed sequence id of the mate has 16 bits where the unit's has
+pub sequence-within : (bound seqId : ℕ) (m : Mate) → seqId ≤ mostSequence → MateWithin bound m → mateSeqId seqId m ≤ mostSequence
+sequence-within bound seqId Unpaired h w = lit≤ tt
+sequence-within bound seqId (Near delta) h w = h
+sequence-within bound seqId (Far sequence position) h w = w .0

@@ -34,7 +34,7 @@ use Rattle.segment.specs.declared.part.PartRead.{PartRead}
 use Rattle.segment.specs.declared.part.PartRead.the-variants as part
 use Rattle.segment.proofs.PartLaws.{Taken, placed-taken, plain-taken}
 use Rattle.segment.proofs.StandardLaws.{Accepted, placed-accepted, placed-aligned, plain-unaligned}
-use Rattle.plan.specs.Plan.{plan, finished, firstPart, secondPart, afterSecond, fromSecond, afterFirst, fromFirst, fromPos, refusedReading, settled, afterAnswer, fromKind, planOf, ReadyPlan, afterPart}
+use Rattle.plan.specs.Plan.{plan, finished, firstPart, secondPart, fromSecond, fromFirst, fromPos, refusedReading, settled, afterAnswer, fromKind, planOf, ReadyPlan, afterPart}
 use Rattle.plan.specs.Said.{Second, alone, behind, Blocks, PlanTaken}
 use Rattle.plan.specs.declared.read.Plan.{Plan}
 use Rattle.plan.specs.declared.read.Planned.{Planned}

@@ -30,8 +30,8 @@ use Rattle.segment.specs.declared.part.Part.{Part}
 use Rattle.segment.specs.declared.part.Part.the-variants.{Absent}
 use Rattle.segment.specs.declared.part.PartRead.{PartRead}
 use Rattle.segment.specs.declared.part.PartRead.the-variants as part
-use Rattle.plan.specs.Lent.{countsOut, stateRefusal, lentRefusal, indexesOut}
-use Rattle.plan.specs.Plan.{plan, finished, firstPart, secondPart, afterSecond, fromSecond, afterFirst, fromFirst, fromPos, settled, afterAnswer, fromKind, planOf, afterPart}
+use Rattle.plan.specs.Lent.{countsOut, stateRefusal, lentRefusal}
+use Rattle.plan.specs.Plan.{plan, finished, firstPart, secondPart, fromSecond, fromFirst, fromPos, settled, afterAnswer, fromKind, planOf, afterPart}
 use Rattle.segment.proofs.RefusalLaws.{EarlyPart, placed-early, plain-early}
 use Rattle.plan.specs.declared.read.Plan.{Plan}
 use Rattle.plan.specs.declared.read.Planned.{Planned}

@@ -2,15 +2,16 @@
 -- Assumes nothing.
 use mathlib.Core.Path.{_≡_, refl, sym, ap, _∙_}
 use mathlib.Core.List.{List, [], _∷_}
-use Prim.Native.Nat.{ℕ, zero, suc, _+_, _*_, _-_, _/_, _<_, _≤_}
+use Prim.Native.Nat.{ℕ, zero, suc, _+_, _*_, _-_, _/_, _^_, _<_, _≤_}
 use native.Mathlib.Omega.{arith}
 use borrow.Author.Tests.{lt-ltb, le-ltb, eq-eqb, ne-eqb}
-use lib.ListN.{length}
+use lib.ListN.{length, getD}
 use Rattle.refusal.specs.Numbers.{countOut}
 use Rattle.frame.specs.Hex.{unhex}
 use Rattle.frame.specs.Line.{lineOf}
 use Rattle.frame.specs.Field.{bigAt}
-use Rattle.frame.proofs.HexLaws.{length-unhex}
+use Rattle.frame.proofs.HexLaws.{byte-lt, length-unhex}
+use Rattle.frame.proofs.FieldLaws.{bigAt-lt}
 use Rattle.frame.proofs.StepLaws.{past-line, past-field, past-refusal, past-limit, past-match}
 use Rattle.preface.proofs.StoreLaws.{Left, left-start, length-stored}
 use Rattle.unit.specs.Kinds.{kindPair}
@@ -52,6 +53,19 @@ symbols-start n s t p =
     rw (e, f) (left-start t p (symbolsAt n s pairHead))
 
 -- ---- the symbols that a count asks for
+
+-- symbol k is the number at its place
+pub symbol-at : (n : ℕ) (s : List ℕ) (at k : ℕ) → k < n → getD (symbolsAt n s at) k 0 ≡ bigAt symbolBytes s (at + symbolBytes * k)
+unfolding symbolsAt
+symbol-at zero s at k h = absurd (omega arith)
+symbol-at (suc n) s at zero h = let e : at + symbolBytes * 0 ≡ at = omega arith in rw e
+symbol-at (suc n) s at (suc k) h =
+    let e : at + symbolBytes * suc k ≡ at + symbolBytes + symbolBytes * k = omega arith in
+    rw e (symbol-at n s (at + symbolBytes) k (omega arith))
+
+-- and fits its four bytes
+pub symbol-fits : (n : ℕ) (l : List ℕ) (at k : ℕ) → k < n → getD (symbolsAt n (unhex l) at) k 0 < 256 ^ symbolBytes
+symbol-fits n l at k h = rw (symbol-at n (unhex l) at k h) (bigAt-lt symbolBytes (unhex l) (at + symbolBytes * k) (byte-lt l))
 
 module _ (l : List ℕ) (count at : ℕ) where
   pub count-above : mostSymbols < count → Refused countOut ≡ pairSymbols (unhex l) count at

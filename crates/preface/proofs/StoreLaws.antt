@@ -60,6 +60,16 @@ stored-before t at vs i h l =
     rw append-assoc
     (List·getD-append (take at t) (vs ++ drop (at + length vs) t) 0 i (rw (length-take-le at t h) l) ∙ getD-take at t i 0 l)
 
+pub stored-behind : (t : List ℕ) (at : ℕ) (vs : List ℕ) (i : ℕ) → at + length vs ≤ length t → at + length vs ≤ i → getD (storedAt t at vs) i 0 ≡ getD t i 0
+unfolding storedAt
+stored-behind t at vs i h l =
+    let n : length (take at t ++ vs) ≡ at + length vs = length-append (take at t) vs ∙ rw (length-take-le at t (omega arith)) in
+    let e : i ≡ at + length vs + (i - (at + length vs)) = omega arith in
+    ap (λ (j : ℕ). getD (take at t ++ vs ++ drop (at + length vs) t) j 0) (e ∙ rw n)
+    ∙ getD-append-add (take at t ++ vs) (drop (at + length vs) t) (i - (at + length vs)) 0
+    ∙ getD-drop (at + length vs) t (i - (at + length vs)) 0
+    ∙ ap (λ (j : ℕ). getD t j 0) (sym e)
+
 -- what is there then, up to the last stored value
 pub take-stored : (t : List ℕ) (at : ℕ) (vs : List ℕ) → at ≤ length t → take (at + length vs) (storedAt t at vs) ≡ take at t ++ vs
 unfolding storedAt

@@ -22,6 +22,7 @@ use Rattle.ecigar.specs.Table90.{movesRead, movesReference, total, printed, All
 use Rattle.ecigar.specs.Ecigar.{ecigarText, Aligned as OfItsClass}
 use Rattle.ecigar.proofs.Table92Laws.{ecigar-is-table92}
 use Rattle.ecigar.proofs.OperationLaws.{counts-positive, operations-read, operations-reference}
+use Rattle.bases.proofs.ReferenceLaws.{length-letters}
 use Rattle.bases.specs.Reference.{isLent, lentSymbol, baseAt, baseRefusal}
 use Rattle.bases.specs.Bases.{beginning}
 use Rattle.bases.specs.Alignment.{Acceptable}
@@ -45,7 +46,6 @@ use Rattle.segment.specs.declared.part.PartRead.{PartRead}
 use Rattle.segment.specs.declared.part.PartRead.the-variants.{Whole, Refused}
 use Rattle.segment.proofs.PlaceLaws.{Inside, place-inside}
 use Rattle.segment.proofs.ReadyLaws.{ReadyBlock, block-ready}
-use Rattle.segment.proofs.WriteLaws.{length-letters}
 
 -- ---- an aligned segment that was accepted
 

@@ -1,8 +1,8 @@
 // Lines gathered in a lent buffer for standard output, and written in large pieces.
 use libc::STDOUT_FILENO;
 use listing::close;
-use writing::lay::Wrote;
 use unit::listed::ListedLine;
+use writing::lay::Wrote;
 ghost use mathlib.Core.Path.{_≡_};
 ghost use lib.ListN.{length};
 ghost use Rattle.stream.specs.Sink.{empty, stopped as stoppedSink, longerBy, withLine, Roomy};

@@ -10,9 +10,9 @@ use stream::sink::with_refused;
 use stream::source::Source;
 use stream::source::pass_lines;
 use stream::source::take;
-use writing::lay::Wrote;
 use unit::State;
 use unit::Unit;
+use writing::lay::Wrote;
 ghost use mathlib.Core.Path.{_≡_};
 ghost use Rattle.supply.specs.Rest.{firstWrote, firstInto};
 
