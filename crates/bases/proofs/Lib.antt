@@ -2,6 +2,5 @@ pub mod ReferenceLaws
 pub mod BasesLaws
 pub mod AlignmentLaws
 pub mod ReadLaws
-pub mod Examples
 pub mod RefusalLaws
 pub mod BytesLaws

@@ -15,7 +15,7 @@ use Rattle.block.specs.Edits.{substitution, insertion, deletion, nextOffset}
 use Rattle.block.specs.declared.edit.Edit.{Edit}
 use Rattle.block.proofs.EditLaws.{next-least, next-other}
 use Rattle.ecigar.specs.declared.walk.Walk.{Walk}
-use Rattle.ecigar.specs.Table90.{matched, substituted, inserted, deleted, softClipped, hardClipped, counted, equalsSign, plusSign, minusSign, roundOpen, roundClose, squareOpen, squareClose, printed, letter}
+use Rattle.ecigar.specs.Table90.{matched, substituted, inserted, deleted, softClipped, hardClipped, counted, equalsSign, plusSign, minusSign, roundOpen, roundClose, squareOpen, squareClose, printed}
 use Rattle.ecigar.specs.Ecigar.{joinsRun, past, matches, openRun, gap, mark, ending, clip, operationsFrom}
 use Rattle.ecigar.proofs.PrintLaws.{length-counted, printed-append, printed-one}
 use Rattle.writing.proofs.DecimalLaws.{digits-most}

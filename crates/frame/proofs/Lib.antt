@@ -6,4 +6,3 @@ pub mod NextLaws
 pub mod Unique
 pub mod StepLaws
 pub mod AnswerLaws
-pub mod Tests

@@ -109,16 +109,6 @@ module _ {X : Type 0} {y : X} (bad : X) (other : bad ≡ y → ⊥) where
   pub past-match : (a b : ℕ) (x : X) → cond (eqb a b) x bad ≡ y → (a ≡ b) × (x ≡ y)
   past-match a b x e = by-test (eqb a b) (λ t. (eqb-true a b t, simp t at e)) (λ t. absurd (other (simp t at e)))
 
--- ---- what holds of every end of a definition
-
-pub by-line : {X : Type 0} (P : X → Type 0) (r : Line) (bad x : X) → P bad → P x → P (afterLine bad r x)
-by-line P (Frame n) bad x h k = k
-by-line P Malformed bad x h k = h
-
-pub by-field : {X : Type 0} (P : X → Type 0) (r : Field) (short : X) (f : ℕ → Cursor → X) → P short → ((v : ℕ) (c : Cursor) → P (f v c)) → P (afterField short r f)
-by-field P (Value v c) short f h k = k v c
-by-field P Short short f h k = h
-
 -- ---- all of them, for `search`
 
 pub ruleset steps = (framed, unframed, value, ended, when, unless, same, differ, under, reaches, over, whole)

@@ -8,7 +8,7 @@ use Rattle.unit.specs.Unit.{classU, mostSegments, largest16}
 use Rattle.pairing.specs.declared.Mate.{Mate}
 use Rattle.pairing.specs.declared.Mate.the-variants.{Unpaired, Near, Far}
 use Rattle.pairing.specs.declared.Link.{Link}
-use Rattle.pairing.specs.Table60.{Steps, reserved, mateAt, HM-same-rec, same-rec, split, diff-ref-seq, R1-unpaired, R2-unpaired, table60}
+use Rattle.pairing.specs.Table60.{Steps, reserved, mateSeqId, mateAt, HM-same-rec, same-rec, split, diff-ref-seq, R1-unpaired, R2-unpaired, table60}
 use Rattle.pairing.proofs.Taking.{by-test, one-of}
 use Rattle.pairing.proofs.Decoding.{Rising, Ends}
 
@@ -141,7 +141,7 @@ unfolding HM-same-rec
 HM-alone = λ v _ fits. refl
 
 -- the listed sequence id of the mate has 16 bits where the unit's has
-pub sequence-within : (bound seqId : ℕ) (m : Mate) → seqId ≤ mostSequence → MateWithin bound m → mateSeqId seqId m ≤ mostSequence
+pub sequence-within : (bound seqId : ℕ) (m : Mate) → seqId ≤ largest16 → MateWithin bound m → mateSeqId seqId m ≤ largest16
 sequence-within bound seqId Unpaired h w = lit≤ tt
 sequence-within bound seqId (Near delta) h w = h
 sequence-within bound seqId (Far sequence position) h w = w .0

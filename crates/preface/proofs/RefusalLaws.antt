@@ -34,53 +34,52 @@ abbrev pub UnitLow : UnitLine → Type 0
 UnitLow (unit.Read u) = Unit
 UnitLow (unit.Refused n) = Early n
 
-ends-low : (s : List ℕ) (c : Cursor) (class alphabet segments sequence first : ℕ) → UnitLow (unitEnds s c class alphabet segments sequence first)
+ends-low : (s : List ℕ) (at class alphabet segments sequence first : ℕ) → UnitLow (unitEnds s at class alphabet segments sequence first)
 unfolding unitEnds
-ends-low s c class alphabet segments sequence first =
-    by-field UnitLow (fieldAt 4 s (c .at)) _ _ (lit< tt, lit< tt)
+ends-low s at class alphabet segments sequence first =
+    by-field UnitLow (fieldAt 4 s at) _ _ (lit< tt, lit< tt)
     (λ start d. by-field UnitLow (fieldAt 4 s (d .at)) _ _ (lit< tt, lit< tt)
     (λ end e. one-of UnitLow (ltb end start) _ _ (lit< tt, lit< tt)
     (by-field UnitLow (fieldAt 2 s (e .at)) _ _ (lit< tt, lit< tt)
     (λ records f. one-of UnitLow (ltb mostRecords records) _ _ (lit< tt, lit< tt)
     (one-of UnitLow (ltb (f .at) (length s)) _ _ (lit< tt, lit< tt) tt)))))
 
-template-low : (s : List ℕ) (c : Cursor) (class alphabet : ℕ) → UnitLow (unitTemplate s c class alphabet)
+template-low : (s : List ℕ) (at class alphabet : ℕ) → UnitLow (unitTemplate s at class alphabet)
 unfolding unitTemplate
-template-low s c class alphabet =
-    by-field UnitLow (fieldAt 1 s (c .at)) _ _ (lit< tt, lit< tt)
+template-low s at class alphabet =
+    by-field UnitLow (fieldAt 1 s at) _ _ (lit< tt, lit< tt)
     (λ segments d. one-of UnitLow (ltb mostSegments segments) _ _ (lit< tt, lit< tt)
     (one-of UnitLow (ltb segments (leastSegments class)) _ _ (lit< tt, lit< tt)
     (by-field UnitLow (fieldAt 2 s (d .at)) _ _ (lit< tt, lit< tt)
     (λ sequence e. by-field UnitLow (fieldAt 4 s (e .at)) _ _ (lit< tt, lit< tt)
-    (λ first f. ends-low s f class alphabet segments sequence first)))))
+    (λ first f. ends-low s (f .at) class alphabet segments sequence first)))))
 
-class-low : (s : List ℕ) (c : Cursor) → UnitLow (unitClass s c)
+class-low : (s : List ℕ) (at : ℕ) → UnitLow (unitClass s at)
 unfolding unitClass
-class-low s c =
-    by-field UnitLow (fieldAt 1 s (c .at)) _ _ (lit< tt, lit< tt)
+class-low s at =
+    by-field UnitLow (fieldAt 1 s at) _ _ (lit< tt, lit< tt)
     (λ class d. one-of UnitLow (ltb class classP) _ _ (lit< tt, lit< tt)
     (one-of UnitLow (ltb classU class) _ _ (lit< tt, lit< tt)
     (by-field UnitLow (fieldAt 1 s (d .at)) _ _ (lit< tt, lit< tt)
-    (λ alphabet e. one-of UnitLow (ltb lastAlphabet alphabet) _ _ (lit< tt, lit< tt) (template-low s e class alphabet)))))
+    (λ alphabet e. one-of UnitLow (ltb lastAlphabet alphabet) _ _ (lit< tt, lit< tt) (template-low s (e .at) class alphabet)))))
 
 pub unit-low : (line : List ℕ) → UnitLow (unitLine line)
 unfolding unitLine
 unit-low line =
     by-line UnitLow (lineOf line) _ _ (lit< tt, lit< tt)
     (by-field UnitLow (fieldAt 1 (unhex line) 0) _ _ (lit< tt, lit< tt)
-    (λ kind c. one-of UnitLow (eqb kind kindUnit) _ _ (class-low (unhex line) c) (lit< tt, lit< tt)))
+    (λ kind c. one-of UnitLow (eqb kind kindUnit) _ _ (class-low (unhex line) (c .at)) (lit< tt, lit< tt)))
 
 -- of a pair line
 abbrev pub PairLow : PairLine → Type 0
 PairLow (pair.Count n) = Unit
 PairLow (pair.Refused n) = Early n
 
-symbols-low : (s : List ℕ) (count : ℕ) (c : Cursor) → PairLow (pairSymbols s count c)
+symbols-low : (s : List ℕ) (count at : ℕ) → PairLow (pairSymbols s count at)
 unfolding pairSymbols
-symbols-low s count c =
+symbols-low s count at =
     one-of PairLow (ltb mostSymbols count) _ _ (lit< tt, lit< tt)
-    (one-of PairLow (ltb (length s) (c .at + symbolBytes * count)) _ _ (lit< tt, lit< tt)
-    (one-of PairLow (ltb (c .at + symbolBytes * count) (length s)) _ _ (lit< tt, lit< tt) tt))
+    (one-of PairLow (eqb (at + symbolBytes * count) (length s)) _ _ tt (lit< tt, lit< tt))
 
 count-low : (line : List ℕ) (number : ℕ) → PairLow (pairCount line number)
 unfolding pairCount
@@ -90,7 +89,7 @@ count-low line number =
     (λ kind c. one-of PairLow (eqb kind kindPair) _ _
     (by-field PairLow (fieldAt 1 (unhex line) (c .at)) _ _ (lit< tt, lit< tt)
     (λ sub d. one-of PairLow (eqb sub number) _ _
-    (by-field PairLow (fieldAt 2 (unhex line) (d .at)) _ _ (lit< tt, lit< tt) (λ count e. symbols-low (unhex line) count e))
+    (by-field PairLow (fieldAt 2 (unhex line) (d .at)) _ _ (lit< tt, lit< tt) (λ count e. symbols-low (unhex line) count (e .at)))
     (lit< tt, lit< tt)))
     (lit< tt, lit< tt)))
 

@@ -2,11 +2,11 @@
 -- Assumes nothing.
 use mathlib.Core.Path.{_≡_, refl, sym, ap, _∙_}
 use mathlib.Core.List.{List, [], _∷_, _++_, append-assoc}
-use Prim.Native.Nat.{ℕ, _+_, _<_, _≤_}
+use Prim.Native.Nat.{ℕ, _+_, _-_, _<_, _≤_}
 use native.Mathlib.Numerals.{add-one}
 use native.Mathlib.Omega.{arith}
 use lib.ListN.{length, take, drop, getD, set, length-append, length-set, List·getD-append}
-use lib.Seq.{sets, sets-eq, length-sets, length-take-le, getD-append-add, getD-take, take-at}
+use lib.Seq.{sets, sets-eq, length-sets, length-take-le, getD-append-add, getD-take, getD-drop, take-at}
 use Rattle.frame.specs.Steps.{storedAt}
 
 -- ---- a loop that stores: what is left to store, from here, comes to the same as the whole from the start
