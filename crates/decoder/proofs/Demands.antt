@@ -78,11 +78,11 @@ pub refused-call-changes-nothing : (u : Unit) (reference symbols counts : List �
     × (output out (recordOf u reference symbols counts state line (length out)) ≡ out)
 refused-call-changes-nothing u reference symbols counts state line out n e = (rw e, rw e)
 
--- a pair line that is refused leaves the lent table as it was
+-- demand 1, of pair lines: one that is refused leaves the lent table as it was
 pub refused-pair-line-changes-nothing : (line : List ℕ) (i : ℕ) (table : List ℕ) (n : ℕ) → pairLine line i (length table) ≡ pair.Refused n → tableAfter line i table ≡ table
 refused-pair-line-changes-nothing line i table n e = sym (table-kept line i n table refl (sym e) .1)
 
--- a reference line that is refused leaves the lent bases as they were
+-- demand 1, of reference lines: one that is refused leaves the lent bases as they were
 pub refused-reference-line-changes-nothing : (line : List ℕ) (used : ℕ) (bases : List ℕ) (n : ℕ) → referenceLine line used (length bases) ≡ reference.Refused n → referenceAfter line used bases ≡ bases
 refused-reference-line-changes-nothing line used bases n e = sym (reference-kept line used n bases refl (sym e) .1)
 
@@ -232,21 +232,23 @@ module _ (refFile unitFile : List ℕ) where
   pub reference-is-read-first : (n : ℕ) → readReference (linesOf refFile) ≡ wrong n → listingOf refFile unitFile ≡ line05 0 n
   reference-is-read-first = reference-first refFile unitFile
 
-  -- a unit file without a line: 14 stands alone
+  -- demand 2, of a unit file without a line: behind an accepted reference the 05 line with 14 stands alone
   pub no-unit-line-stands-alone : (reference : List ℕ) → readReference (linesOf refFile) ≡ good reference → linesOf unitFile ≡ [] → listingOf refFile unitFile ≡ line05 0 missing
   no-unit-line-stands-alone = unit-missing refFile unitFile
 
-  -- a refused unit line: its refusal number stands alone
+  -- demand 2, of a refused unit line: the 05 line with its refusal number stands alone
   pub refused-unit-line-stands-alone : (reference : List ℕ) → readReference (linesOf refFile) ≡ good reference → (line : List ℕ) (ls : List (List ℕ)) → linesOf unitFile ≡ line ∷ ls
       → (n : ℕ) → readUnit line ≡ wrong n → listingOf refFile unitFile ≡ line05 0 n
   refused-unit-line-stands-alone = unit-refused-alone refFile unitFile
 
-  -- a pair line that is missing, or the first that is refused, behind an accepted unit line: the unit line, then the 05 line with 14 or its refusal number
+  -- demand 2, of the pair lines: behind an accepted unit line and as many accepted pair lines as `ps` has
   module _ (reference first : List ℕ) (u : Unit) (ps : List (List ℕ)) (read : readReference (linesOf refFile) ≡ good reference) (unit : readUnit first ≡ good u)
       (few : length ps < subsequences) (pairs-read : (j : ℕ) → j < length ps → (row : List ℕ) × (readPair j (getD ps j []) ≡ good row)) where
+    -- the next one is missing: the unit line, then the 05 line with 14
     pub missing-pair-line-is-told : linesOf unitFile ≡ first ∷ ps → listingOf refFile unitFile ≡ first ++ line05 0 missing
     missing-pair-line-is-told = pair-missing refFile unitFile reference read first u ps unit few pairs-read
 
+    -- the next one is refused: the unit line, then the 05 line with its refusal number
     pub refused-pair-line-is-told : (line : List ℕ) (ls : List (List ℕ)) → linesOf unitFile ≡ first ∷ (ps ++ line ∷ ls) → (n : ℕ) → readPair (length ps) line ≡ wrong n
         → listingOf refFile unitFile ≡ first ++ line05 0 n
     refused-pair-line-is-told = pair-refused-first refFile unitFile reference read first u ps unit few pairs-read
@@ -295,7 +297,7 @@ module _ (refFile unitFile : List ℕ) where
   pub last-line-closes : Closes (lastFrom (firstListed refFile unitFile) (restListed refFile unitFile))
   last-line-closes = two.last-line-closes (frontOf refFile unitFile)
 
-  -- demand 1's refusals in it: behind i 04 lines an 05 line has the number i, and the number by which the record call refuses record i from the state behind them;
+  -- demand 1's refusals in demand 2's listing: behind i 04 lines an 05 line has the number i, and the number by which the record call refuses record i from the state behind them;
   -- or 14, where the lines run out or a line or a pair symbol is left over. A listing without a refusal ends in 06 and the record count
   pub last-line-says-why : (o : Opened refFile unitFile) → Ending o (lastFrom (firstListed refFile unitFile) (restListed refFile unitFile))
   last-line-says-why = opened-ending
@@ -328,7 +330,7 @@ module _ (refFile unitFile : List ℕ) where
   pub resuming-makes-whole : (n k : ℕ) → resumedOf refFile unitFile (torn n k (listingOf refFile unitFile)) ≡ listingOf refFile unitFile
   resuming-makes-whole = three.resuming-makes-whole (frontOf refFile unitFile) (front-is-lawful refFile unitFile)
 
-  -- what is kept then (Resuming: "everything up to the last 0A that stands before the first zero byte") are the listing's lines that end within its first n bytes, and nothing else
+  -- demand 3, what is kept then (Resuming: "everything up to the last 0A that stands before the first zero byte") are the listing's lines that end within its first n bytes, and nothing else
   pub whole-lines-are-kept : (n k : ℕ) → kept (torn n k (listingOf refFile unitFile)) ≡ joined (linesWithin n (linesListed refFile unitFile))
   whole-lines-are-kept = three.whole-lines-are-kept (frontOf refFile unitFile) (front-is-lawful refFile unitFile)
 
@@ -340,7 +342,7 @@ module _ (refFile unitFile : List ℕ) where
   pub resuming-again-makes-whole : (stops : List (ℕ × ℕ)) → resumedAgainOf refFile unitFile stops ≡ listingOf refFile unitFile
   resuming-again-makes-whole = three.resuming-again-makes-whole (frontOf refFile unitFile) (front-is-lawful refFile unitFile)
 
-  -- resuming looks at a found file only through its first and its last kept line: what is supplied for two files that agree in them is the same
+  -- demand 3: resuming looks at a found file only through its first and its last kept line: what is supplied for two files that agree in them is the same
   pub supplied-by-edges : (found other : List ℕ) → edgesIn found ≡ edgesIn other → suppliedOf refFile unitFile found ≡ suppliedOf refFile unitFile other
   supplied-by-edges = three.supplied-by-edges (frontOf refFile unitFile)
 
@@ -365,7 +367,7 @@ module _ (refFile unitFile : List ℕ) where
 
   -- ---- what is added behind each sort of last line
 
-  -- "After a unit line all the rest is added": the first line is the only one that is kept
+  -- demand 3, "After a unit line all the rest is added": the first line is the only one that is kept
   pub all-the-rest-after-the-first : suppliedBy refFile unitFile (edges (firstListed refFile unitFile) (firstListed refFile unitFile)) ≡ add (joined (restListed refFile unitFile))
   all-the-rest-after-the-first = three.all-the-rest-after-the-first (frontOf refFile unitFile)
 
@@ -399,24 +401,24 @@ module _ (refFile unitFile : List ℕ) where
       → placeBy (firstListed refFile unitFile) (countOf (frontOf refFile unitFile)) (countsOf (frontOf refFile unitFile)) (edgesAt (keepAll fresh found) found) ≡ place (frontOf refFile unitFile) (edgesIn found)
   place-by-keep = found.place-by-keep (frontOf refFile unitFile)
 
--- what `Keep` knows of a found file that it has read: how many bytes are kept, which they are, and where the first and the last kept line stand
+-- demand 3, of the public functions: what `Keep` knows of a found file that it has read: how many bytes are kept, which they are, and where the first and the last kept line stand
 pub keep-knows-what-is-kept : (found : List ℕ) → length found ≤ mostBytes → Known found (keepAll fresh found)
 keep-knows-what-is-kept = found.keep-knows-the-edges
 
--- and it knows the same however the file is cut into pieces
+-- demand 3, `Keep` in pieces: it knows the same however the file is cut into pieces
 pub keep-by-pieces : (k : Keep) (xs ys : List ℕ) → keepAll k (xs ++ ys) ≡ keepAll (keepAll k xs) ys
 keep-by-pieces = found.keep-by-pieces
 
--- `place` needs no more of the two lines than a buffer that is longer than the longest line holds
+-- demand 3, `place` by a buffer: it needs no more of the two lines than a buffer that is longer than the longest line holds
 pub edges-by-a-buffer : (first : List ℕ) (count : ℕ) (counts : List ℕ) (n : ℕ) (a z : List ℕ) → length first < n → mostListed + 1 < n
     → placeBy first count counts (edgesFrom (take n a) (take n z)) ≡ placeBy first count counts (edgesFrom a z)
 edges-by-a-buffer = three.edges-by-a-buffer
 
--- "passed over by their 0A only": the lines behind the j-th are those of what stands behind the j-th 0A
+-- demand 3, "passed over by their 0A only": the lines behind the j-th are those of what stands behind the j-th 0A
 pub skip-counts-ends : (j : ℕ) (file : List ℕ) → skip j (linesOf file) ≡ linesIn (passed j file)
 skip-counts-ends = behind.skip-counts-ends
 
--- and `pass` finds that place, however the file is cut into pieces
+-- demand 3, `pass` in pieces: it finds that place however the file is cut into pieces
 pub pass-by-pieces : (want : ℕ) (xs ys : List ℕ) → passed want (xs ++ ys) ≡ passed (passOver want xs .left) (drop (passOver want xs .at) xs ++ ys)
 pass-by-pieces = behind.pass-by-pieces
 

@@ -23,12 +23,12 @@ use Rattle.listing.specs.Lines.{pushByte, linesOf, joined, ends, WholeLine, end
 use Rattle.listing.specs.Files.{good, wrong, pairs}
 use Rattle.listing.specs.Listing.{Front, line05, lastLine, firstOf, restOf, listed, listing, Each, none, one, ListingLine}
 use Rattle.listing.specs.Resuming.{stateAt, edges, ListedLine, add, skip}
-use Rattle.listing.specs.Turn.{Turn, go, stop, onTurn, turn, run}
+use Rattle.listing.specs.Turn.{Turn, go, stop, onTurn, turn, runBy, run}
 use Rattle.listing.proofs.Demand2.{one-call-a-line}
 use Rattle.listing.proofs.Demand3.{one-call-a-line-goes-on}
 use Rattle.decoder.specs.Files.{readReference, readUnit, readPair, countsIn, tableOf}
 use Rattle.decoder.specs.Decoder.{setupOf, frontOf, listingOf, restListed, suppliedBy, Opened, setupIn}
-use Rattle.decoder.specs.Turned.{lentLine, turnOf, callsPrint, callsFor}
+use Rattle.decoder.specs.Turned.{lentLine, turnOf, lentFor, callsFor}
 use Rattle.decoder.proofs.OpenedLaws.{opened-front, pairs-stop}
 use Rattle.decoder.proofs.SymbolsLaws.{opened-lawful}
 
@@ -165,8 +165,9 @@ module _ (u : Unit) (reference symbols counts first : List ℕ) (lines : List (L
   turn-line state l h = rw (ne-eqb (length l) 0 (λ e. omega arith)) (same-turn state (some l))
 
   -- so the calls print what the turns print
-  calls-run : (k : ℕ) (state : State) (ls : List (List ℕ)) → Each Some ls → callsPrint u reference symbols counts k state ls ≡ run (setupOf u reference symbols counts first lines) k state ls
-  unfolding callsPrint run
+  calls-run : (k : ℕ) (state : State) (ls : List (List ℕ)) → Each Some ls
+      → runBy (λ s line. turnOf u reference symbols counts s (lentFor line)) k state ls ≡ run (setupOf u reference symbols counts first lines) k state ls
+  unfolding runBy
   calls-run zero state ls h = refl
   calls-run (suc k) state [] h = rw (turn-end state) (on-turn (turn (setupOf u reference symbols counts first lines) state end-of-file) _ _ (λ next. calls-run k next [] none))
   calls-run (suc k) state (l ∷ ls) (one a h) = rw (turn-line state l a) (on-turn (turn (setupOf u reference symbols counts first lines) state (some l)) _ _ (λ next. calls-run k next ls h))

@@ -1,6 +1,6 @@
 -- What a caller sees of a turn (document 01, The listing): one call a line of the unit file.
 -- Assumes nothing.
-use Prim.Native.Nat.{ℕ, zero, suc}
+use Prim.Native.Nat.{ℕ}
 use mathlib.Core.Bool.{cond}
 use mathlib.Core.List.{List, [], _∷_, _++_}
 use mathlib.Core.Option.{Option, none, some}
@@ -12,7 +12,7 @@ use Rattle.writing.specs.declared.lay.Wrote.the-variants as wrote
 use Rattle.unit.specs.Listed.{mostListed}
 use Rattle.unit.specs.declared.Unit.{Unit}
 use Rattle.unit.specs.declared.State.{State}
-use Rattle.listing.specs.Turn.{Turn, go, stop, turn, onTurn}
+use Rattle.listing.specs.Turn.{Turn, go, stop, turn, runBy}
 use Rattle.decoder.specs.Files.{countsIn, tableOf}
 use Rattle.decoder.specs.Decoder.{setupOf, Opened}
 use Rattle.decoder.specs.declared.Turned.{Turned}
@@ -58,14 +58,11 @@ addedNumber (Go n) = fine
 addedNumber (Stop n) = fine
 addedNumber NoRoom = noRoom
 
--- what so many calls print: one a line of the unit file, and behind the last line the end of the file; `run` of `listing`, by what the public `turn` promises
-unfoldable pub callsPrint : Unit → List ℕ → List ℕ → List ℕ → ℕ → State → List (List ℕ) → List ℕ
-callsPrint u reference symbols counts zero state ls = []
-callsPrint u reference symbols counts (suc k) state [] =
-    onTurn (turnOf u reference symbols counts state []) (λ next. callsPrint u reference symbols counts k next [])
-callsPrint u reference symbols counts (suc k) state (l ∷ ls) =
-    onTurn (turnOf u reference symbols counts state l) (λ next. callsPrint u reference symbols counts k next ls)
+-- what is lent to `turn` for a line of the unit file, or for its end
+abbrev pub lentFor : Option (List ℕ) → List ℕ
+lentFor none = []
+lentFor (some line) = line
 
--- the calls for two files that are read
+-- what so many calls print, for two files that are read
 abbrev pub callsFor : {refFile unitFile : List ℕ} → Opened refFile unitFile → ℕ → State → List (List ℕ) → List ℕ
-callsFor o k state ls = callsPrint (o .unit) (o .reference) (tableOf (o .rows)) (countsIn (o .rows)) k state ls
+callsFor o k state ls = runBy (λ s line. turnOf (o .unit) (o .reference) (tableOf (o .rows)) (countsIn (o .rows)) s (lentFor line)) k state ls

@@ -13,12 +13,12 @@ use Rattle.listing.specs.Lines.{joined}
 use Rattle.unit.specs.Listed.{Step, refused, accepted}
 use Rattle.listing.specs.Record.{Setup, Accepted, Lawful}
 use Rattle.listing.specs.Listing.{ready, line05, lastLine, onStep, records, restOf}
-use Rattle.listing.specs.Turn.{turn, stepTurn, onTurn, run}
+use Rattle.listing.specs.Turn.{turn, stepTurn, onTurn, runBy, run}
 
 module _ {E : Setup} (w : Lawful E) where
   -- k records are left: k + 1 turns
   pub run-records : (k : ℕ) (s : State) (ls : List (List ℕ)) → length (s .index) ≡ subsequences → s .number + k ≡ E .count → run E (suc k) s ls ≡ joined (records E k s ls)
-  unfolding run turn records joined lastLine
+  unfolding runBy turn records joined lastLine
   run-records zero s [] i e = rw (le-ltb (s .number) (E .count) (omega arith), append-nil)
   run-records zero s (l ∷ ls) i e = rw (le-ltb (s .number) (E .count) (omega arith), append-nil)
   run-records (suc k) s [] i e = rw (lt-ltb (s .number) (E .count) (omega arith), append-nil)

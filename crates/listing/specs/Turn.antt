@@ -41,8 +41,12 @@ abbrev pub onTurn : Turn → (State → List ℕ) → List ℕ
 onTurn (go out next) more = out ++ more next
 onTurn (stop out) more = out
 
--- what so many turns print
-unfoldable pub run : Setup → ℕ → State → List (List ℕ) → List ℕ
-run E zero s ls = []
-run E (suc k) s [] = onTurn (turn E s none) (λ next. run E k next [])
-run E (suc k) s (l ∷ ls) = onTurn (turn E s (some l)) (λ next. run E k next ls)
+-- what so many turns print, whatever a turn is: one a line, and behind the last line the end of the file
+unfoldable pub runBy : (State → Option (List ℕ) → Turn) → ℕ → State → List (List ℕ) → List ℕ
+runBy t zero s ls = []
+runBy t (suc k) s [] = onTurn (t s none) (λ next. runBy t k next [])
+runBy t (suc k) s (l ∷ ls) = onTurn (t s (some l)) (λ next. runBy t k next ls)
+
+-- what so many turns of a setup print
+abbrev pub run : Setup → ℕ → State → List (List ℕ) → List ℕ
+run E k s ls = runBy (turn E) k s ls
