@@ -12,6 +12,7 @@ use lib.ListN.{length}
 use Rattle.frame.proofs.HexLaws.{by-test}
 use Rattle.unit.specs.Unit.{classP, classN, classM, classI, classHM}
 use Rattle.alphabet.specs.Table35.{letterN, letterOf, codeOfN, sizeOf}
+use Rattle.alphabet.proofs.AlphabetLaws.{letter-of-n}
 use Rattle.block.specs.Edits.{substitution, widthOf, editAt, editsAt, Sound}
 use Rattle.block.specs.Segment.{noClips, mappedLength}
 use Rattle.block.specs.declared.edit.Edit.{Edit}
@@ -46,10 +47,6 @@ each-m class alphabet frame zero at h = none
 each-m class alphabet frame (suc k) at h =
     more (editAt class alphabet frame at) (simp (ne-eqb class classN (λ z. omega arith), eq-eqb class classM h)) (each-m class alphabet frame k (at + widthOf class) h)
 
-letter-n : (alphabet : ℕ) → letterOf alphabet (codeOfN alphabet) ≡ letterN
-unfolding letterOf codeOfN
-letter-n alphabet = by-test (eqb alphabet 0) (λ h. simp h) (λ h. simp h)
-
 -- Classes I or HM
 is-indel : (class : ℕ) → classI ≤ class → class ≤ classHM → (eqb class classI || eqb class classHM) ≡ true
 is-indel class l h =
@@ -78,7 +75,7 @@ module _ (class alphabet : ℕ) (frame : List ℕ) (len k at : ℕ) where
         many [] []
         ∙ simp (ne-eqb class classP (λ z. omega arith), eq-eqb class classN h)
         (mismatch-text alphabet len (sizeOf alphabet) (λ (i : ℕ). letterN) (IsN alphabet) (λ e p. p .0) es
-        (λ i e rest q p. sym (letter-n alphabet) ∙ ap (λ (y : ℕ). letterOf alphabet y) (sym (p .1))) (each-n class alphabet frame k at h) sound)
+        (λ i e rest q p. sym (letter-of-n alphabet) ∙ ap (λ (y : ℕ). letterOf alphabet y) (sym (p .1))) (each-n class alphabet frame k at h) sound)
 
     table93-m : class ≡ classM → decodeECigarMismatches class len k (offsetsOf es) (lettersIn alphabet es) [] ≡ ecigarOf alphabet len es
     unfolding decodeECigarMismatches ecigarOf
@@ -125,6 +122,7 @@ bare-text class alphabet frame s h = text-parts class alphabet frame s ∙ rw (h
 
 -- For every segment whose edits are accepted, in class P, N, M, I or HM, the text is Table 92's.
 -- leftSoftClips and rightSoftClips are the clipped bases, of which only the number counts.
+-- Every aligned segment that is read is one: `listed-is-table92` (segment, proofs/StandardLaws).
 pub ecigar-is-table92 : (class alphabet : ℕ) (frame : List ℕ) (s : Segment) (leftSoftClips rightSoftClips : List ℕ)
     → Aligned class s
     → Sound (mappedLength (s .length) (s .clips)) (sizeOf alphabet) 0 (segmentEdits class alphabet frame s)

@@ -1,7 +1,7 @@
 -- What the standard says of an aligned segment that was accepted: its E-CIGAR is Table 92's, its bases come from the reference, its edits and its clips (10.6.1), and it lies within its unit.
 -- Assumes nothing.
 use Prim.Native.Nat.{ℕ, _+_, _-_, _<_, _≤_}
-use mathlib.Core.Path.{_≡_, refl, sym, ap, _∙_}
+use mathlib.Core.Path.{_≡_, refl, sym, _∙_}
 use mathlib.Core.Logic.{_⊎_, ⊎-elim}
 use mathlib.Core.List.{List}
 use native.Mathlib.Omega.{arith}
