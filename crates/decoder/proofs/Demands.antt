@@ -27,7 +27,7 @@ use Rattle.segment.specs.Listed.{listedBases, listedEcigar, listedOperations, m
 use Rattle.segment.specs.declared.part.Placed.{Placed}
 use Rattle.segment.specs.declared.unaligned.Unaligned.{Unaligned as UnalignedOf}
 use Rattle.segment.specs.declared.part.Part.the-variants.{Aligned, Unaligned, Absent}
-use Rattle.segment.proofs.StandardLaws.{Accepted, listed-is-table92, listed-operations, listed-counts, listed-reads, listed-end, listed-length, listed-from, listed-lent, listed-missing, listed-edit, listed-left, listed-right, listed-letter}
+use Rattle.segment.proofs.StandardLaws.{Accepted, listed-is-table92, listed-operations, listed-counts, listed-reads, listed-end, listed-length, listed-from, listed-place, listed-lent, listed-missing, listed-edit, listed-left, listed-right, listed-letter}
 use Rattle.plan.specs.Plan.{planOf}
 use Rattle.plan.specs.Said.{Blocks, AlignedIn}
 use Rattle.plan.specs.declared.read.Plan.{Plan}
@@ -179,6 +179,10 @@ module _ (u : Unit) (reference symbols counts : List ℕ) (state : State) (line 
     -- every base that is mapped matches the reference at one position, or is substituted or inserted by an edit
     pub mapped-base-comes-from : (i : ℕ) → i < mappedIn q → ((at : ℕ) × Matches u (unhex line) q i at) ⊎ ((e : Edit) × Brought u (unhex line) q i e)
     mapped-base-comes-from = listed-from u reference (unhex line) q accepted-read
+
+    -- the position that it matches lies within the unit
+    pub matching-base-lies-in-its-unit : (i at : ℕ) → Matches u (unhex line) q i at → (u .start ≤ at) × (at ≤ u .end)
+    matching-base-lies-in-its-unit = listed-place u reference (unhex line) q accepted-read
 
     -- a base that matches is the reference's base at its position
     pub matching-base-is-the-reference : (i at : ℕ) → Matches u (unhex line) q i at → u .first ≤ at → at < u .first + length reference
