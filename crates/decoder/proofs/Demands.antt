@@ -108,11 +108,11 @@ module _ (u : Unit) (reference symbols counts : List ℕ) (state : State) (line 
   pub second-read-is-aligned : mostSegments ≤ p .link .segments → u .class < classHM → (q : Placed) × (p .second ≡ Aligned q)
   second-read-is-aligned = second-is-aligned u reference (unhex line) 5 p blocks
 
-  -- no read of class U is
+  -- the first read of class U is not
   pub first-read-of-u-is-unaligned : u .class ≡ classU → (s : UnalignedOf) × (p .first ≡ Unaligned s)
   first-read-of-u-is-unaligned = first-is-plain u reference (unhex line) 5 p blocks
 
-  -- nor is the second of HM, the half-mapped pair
+  -- nor is a second read of U or of HM, the half-mapped pairs
   pub second-read-of-hm-is-unaligned : mostSegments ≤ p .link .segments → classHM ≤ u .class → (s : UnalignedOf) × (p .second ≡ Unaligned s)
   second-read-of-hm-is-unaligned = second-is-plain u reference (unhex line) 5 p blocks
 
