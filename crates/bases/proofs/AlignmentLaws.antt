@@ -117,6 +117,17 @@ edit-most mapped symbols next (e ∷ es) i d s u =
     (λ w. edit-most mapped symbols (nextOffset e) es i d (sound-tail mapped symbols next e es s) w)
     u
 
+-- its position is one of those that the edits take
+pub under-place : (mapped : ℕ) (p : Places) (es : List Edit) (i position : ℕ) → UnderMatch mapped p es i position → (R p ≤ position) × (position < R p + takenFrom mapped (r p) es)
+unfolding UnderMatch takenFrom
+under-place mapped p [] i position u = (omega (arith, u .at), omega (arith, u .from, u .until, u .at))
+under-place mapped p (e ∷ es) i position u =
+    ⊎-elim (λ w. (omega (arith, w .at), omega (arith, w .from, w .until, w .at)))
+    (λ w.
+    let l = rw (past-read e p, past-reference e p) at (under-place mapped (pastEdit e p) es i position w) in
+    (omega (arith, l .0), omega (arith, l .1)))
+    u
+
 module _ (alphabet : ℕ) (reference : List ℕ) (first mapped : ℕ) where
   -- what comes behind an edit is what comes behind it in the bases
   past-at : (p : Places) (e : Edit) (es : List Edit) (i : ℕ) → r p ≤ e .offset → nextOffset e ≤ i

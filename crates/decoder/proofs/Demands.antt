@@ -37,7 +37,7 @@ use Rattle.segment.specs.Listed.{listedBases, listedEcigar, listedOperations, m
 use Rattle.segment.specs.declared.part.Placed.{Placed}
 use Rattle.segment.specs.declared.unaligned.Unaligned.{Unaligned as UnalignedOf}
 use Rattle.segment.specs.declared.part.Part.the-variants.{Aligned, Unaligned, Absent}
-use Rattle.segment.proofs.StandardLaws.{Accepted, listed-is-table92, listed-operations, listed-counts, listed-reads, listed-end, listed-length, listed-from, listed-lent, listed-missing, listed-edit, listed-left, listed-right, listed-letter}
+use Rattle.segment.proofs.StandardLaws.{Accepted, listed-is-table92, listed-operations, listed-counts, listed-reads, listed-end, listed-length, listed-from, listed-place, listed-lent, listed-missing, listed-edit, listed-left, listed-right, listed-letter}
 use Rattle.plan.specs.Plan.{planOf}
 use Rattle.plan.specs.Said.{Blocks, AlignedIn}
 use Rattle.plan.specs.declared.read.Plan.{Plan}
@@ -127,11 +127,11 @@ module _ (u : Unit) (reference symbols counts : List ℕ) (state : State) (line 
   pub second-read-is-aligned : mostSegments ≤ p .link .segments → u .class < classHM → (q : Placed) × (p .second ≡ Aligned q)
   second-read-is-aligned = second-is-aligned u reference (unhex line) 5 p blocks
 
-  -- no read of class U is
+  -- the first read of class U is not
   pub first-read-of-u-is-unaligned : u .class ≡ classU → (s : UnalignedOf) × (p .first ≡ Unaligned s)
   first-read-of-u-is-unaligned = first-is-plain u reference (unhex line) 5 p blocks
 
-  -- nor is the second of HM, the half-mapped pair
+  -- nor is a second read of U or of HM, the half-mapped pairs
   pub second-read-of-hm-is-unaligned : mostSegments ≤ p .link .segments → classHM ≤ u .class → (s : UnalignedOf) × (p .second ≡ Unaligned s)
   second-read-of-hm-is-unaligned = second-is-plain u reference (unhex line) 5 p blocks
 
@@ -198,6 +198,10 @@ module _ (u : Unit) (reference symbols counts : List ℕ) (state : State) (line 
     -- every base that is mapped matches the reference at one position, or is substituted or inserted by an edit
     pub mapped-base-comes-from : (i : ℕ) → i < mappedIn q → ((at : ℕ) × Matches u (unhex line) q i at) ⊎ ((e : Edit) × Brought u (unhex line) q i e)
     mapped-base-comes-from = listed-from u reference (unhex line) q accepted-read
+
+    -- the position that it matches lies within the unit
+    pub matching-base-lies-in-its-unit : (i at : ℕ) → Matches u (unhex line) q i at → (u .start ≤ at) × (at ≤ u .end)
+    matching-base-lies-in-its-unit = listed-place u reference (unhex line) q accepted-read
 
     -- a base that matches is the reference's base at its position
     pub matching-base-is-the-reference : (i at : ℕ) → Matches u (unhex line) q i at → u .first ≤ at → at < u .first + length reference

@@ -1,8 +1,8 @@
 -- The laws of the numbers that two files give: the AU end and the pair symbols are read from four bytes, so every position that is listed is listed whole.
 -- Assumes nothing.
-use Prim.Native.Nat.{ℕ, zero, suc, _+_, _-_, _^_, _<_, _≤_}
+use Prim.Native.Nat.{ℕ, suc, _+_, _-_, _^_, _<_, _≤_}
 use native.Mathlib.Omega.{arith}
-use mathlib.Core.Path.{_≡_, refl, sym, ap, _∙_}
+use mathlib.Core.Path.{_≡_}
 use mathlib.Core.List.{List, [], _∷_}
 use lib.Dec.{ltb, lit<}
 use lib.ListN.{length, getD, getD-replicate, List·getD-eq-default}
@@ -11,8 +11,6 @@ use Rattle.frame.specs.Hex.{unhex}
 use Rattle.frame.specs.Steps.{storedAt}
 use Rattle.frame.proofs.HexLaws.{by-test}
 use Rattle.unit.specs.State.{subsequences, symbolPlace, tableLength}
-use Rattle.unit.specs.declared.Unit.{Unit}
-use Rattle.unit.specs.declared.State.{State}
 use Rattle.unit.proofs.ValidLaws.{UnitValid, valid-is}
 use Rattle.preface.specs.PairLine.{pairHead, symbolsAt}
 use Rattle.preface.proofs.PairLaws.{length-symbols, symbol-fits}

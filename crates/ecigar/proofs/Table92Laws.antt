@@ -122,6 +122,7 @@ bare-text class alphabet frame s h = text-parts class alphabet frame s ∙ rw (h
 
 -- For every segment whose edits are accepted, in class P, N, M, I or HM, the text is Table 92's.
 -- leftSoftClips and rightSoftClips are the clipped bases, of which only the number counts.
+-- Every aligned segment that is read is one: `listed-is-table92` (segment, proofs/StandardLaws).
 pub ecigar-is-table92 : (class alphabet : ℕ) (frame : List ℕ) (s : Segment) (leftSoftClips rightSoftClips : List ℕ)
     → Aligned class s
     → Sound (mappedLength (s .length) (s .clips)) (sizeOf alphabet) 0 (segmentEdits class alphabet frame s)

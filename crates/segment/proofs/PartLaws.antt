@@ -1,20 +1,16 @@
 -- The laws of a part that was accepted: it is ready to be written, its bytes are as many as `partLength` says, and that is at most `mostPart`.
 -- Assumes nothing.
-use mathlib.Core.Path.{_≡_, refl, sym, ap, _∙_}
-use mathlib.Core.Bool.{cond}
-use mathlib.Core.List.{List, [], _++_}
-use Prim.Native.Nat.{ℕ, _+_, _*_, _<_, _≤_}
+use mathlib.Core.Path.{_≡_, refl, ap}
+use mathlib.Core.List.{List}
+use Prim.Native.Nat.{ℕ, _+_, _<_, _≤_}
 use native.Mathlib.Omega.{arith}
-use borrow.Author.Tests.{eqb-true}
 use lib.Dec.{eqb}
 use lib.ListN.{length, getD, length-append}
 use Rattle.refusal.specs.Numbers.{fine}
-use Rattle.frame.specs.Hex.{be}
 use Rattle.frame.specs.declared.field.Cursor.{Cursor}
 use Rattle.frame.proofs.HexLaws.{by-test, length-be}
 use Rattle.unit.specs.declared.Unit.{Unit}
-use Rattle.block.specs.Segment.{mostRead, mostEdits, mostEcigar, softBases, mappedLength}
-use Rattle.bases.specs.Bases.{basesText}
+use Rattle.block.specs.Segment.{mostRead}
 use Rattle.bases.specs.Alignment.{Acceptable}
 use Rattle.bases.proofs.ReadLaws.{read-length}
 use Rattle.ecigar.proofs.OperationLaws.{ecigar-most}
@@ -24,7 +20,7 @@ use Rattle.segment.specs.Aligned.{alignedAt}
 use Rattle.segment.specs.Unaligned.{fromLength, unalignedAt}
 use Rattle.segment.specs.Place.{placeRefusal}
 use Rattle.segment.specs.Part.{underMatches, placedPart, placed, placedAt, afterBlock, plainAt, afterPlain, alignedBytes, unalignedBytes, partBytes, mostPart, partLength}
-use Rattle.segment.specs.Ready.{Ready, ReadyAligned, ReadyUnaligned}
+use Rattle.segment.specs.Ready.{Ready}
 use Rattle.segment.specs.declared.checked.Checked.{Checked}
 use Rattle.segment.specs.declared.checked.Checked.the-variants as field
 use Rattle.segment.specs.declared.aligned.Aligned.{Aligned as AlignedOf}
@@ -34,10 +30,9 @@ use Rattle.segment.specs.declared.unaligned.Unaligned.{Unaligned as Unal
 use Rattle.segment.specs.declared.unaligned.UnalignedBlock.{UnalignedBlock}
 use Rattle.segment.specs.declared.unaligned.UnalignedBlock.the-variants as unaligned
 use Rattle.segment.specs.declared.part.Part.{Part}
-use Rattle.segment.specs.declared.part.Part.the-variants.{Aligned, Unaligned, Absent}
+use Rattle.segment.specs.declared.part.Part.the-variants.{Unaligned}
 use Rattle.segment.specs.declared.part.PartRead.{PartRead}
 use Rattle.segment.specs.declared.part.PartRead.the-variants.{Whole, Refused}
-use Rattle.segment.proofs.PlaceLaws.{Inside, place-inside}
 use Rattle.segment.proofs.ReadyLaws.{ReadyBlock, block-ready, length-got, symbols-got}
 use Rattle.bases.proofs.ReferenceLaws.{length-letters}
 

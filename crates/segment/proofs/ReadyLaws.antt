@@ -1,20 +1,18 @@
 -- What the check of a segment leaves: every part that was accepted is ready to be written.
 -- Assumes nothing.
 use mathlib.Core.Path.{_≡_, refl, sym, ap, _∙_}
-use mathlib.Core.Bool.{cond}
 use mathlib.Core.List.{List}
 use Prim.Native.Nat.{ℕ, zero, suc, _+_, _*_, _<_, _≤_}
 use native.Mathlib.Omega.{arith}
 use native.Mathlib.Nat.{add-zero}
-use borrow.Author.Tests.{leb-false, ltb-true, ltb-false, eqb-true, eqb-false}
+use borrow.Author.Tests.{leb-false, ltb-false, eqb-false}
 use lib.Dec.{ltb, leb, eqb, lit<}
 use lib.ListN.{length, getD}
-use Rattle.refusal.specs.Numbers.{fine, misframed}
-use Rattle.frame.specs.Field.{fieldAt, bigAt, afterField}
+use Rattle.refusal.specs.Numbers.{misframed}
+use Rattle.frame.specs.Field.{bigAt}
 use Rattle.frame.specs.declared.field.Cursor.{Cursor}
 use Rattle.frame.proofs.HexLaws.{by-test}
 use Rattle.frame.proofs.FieldLaws.{bigAt-lt}
-use Rattle.unit.specs.declared.Unit.{Unit}
 use Rattle.unit.specs.Unit.{classP, classI}
 use Rattle.alphabet.specs.Table35.{sizeOf}
 use Rattle.frame.proofs.StepLaws.{past-field, past-refusal}

@@ -1,7 +1,7 @@
 -- What the standard says of an aligned segment that was accepted: its E-CIGAR is Table 92's, its bases come from the reference, its edits and its clips (10.6.1), and it lies within its unit.
 -- Assumes nothing.
 use Prim.Native.Nat.{ℕ, _+_, _-_, _<_, _≤_}
-use mathlib.Core.Path.{_≡_, refl, sym, ap, _∙_}
+use mathlib.Core.Path.{_≡_, refl, sym, _∙_}
 use mathlib.Core.Logic.{_⊎_, ⊎-elim}
 use mathlib.Core.List.{List}
 use native.Mathlib.Omega.{arith}
@@ -26,7 +26,7 @@ use Rattle.bases.proofs.ReferenceLaws.{length-letters}
 use Rattle.bases.specs.Reference.{isLent, lentSymbol, baseAt, baseRefusal}
 use Rattle.bases.specs.Bases.{beginning}
 use Rattle.bases.specs.Alignment.{Acceptable}
-use Rattle.bases.proofs.AlignmentLaws.{under-fine, edit-inside}
+use Rattle.bases.proofs.AlignmentLaws.{under-place, under-fine, edit-inside}
 use Rattle.bases.proofs.ReadLaws.{read-length, base-under-match, base-of-edit, base-from, base-of-left, base-of-right}
 use Rattle.segment.specs.Aligned.{alignedAt}
 use Rattle.segment.specs.Unaligned.{unalignedAt}
@@ -170,6 +170,11 @@ module _ (u : Unit) (reference frame : List ℕ) (q : Placed) (a : Accepted u re
 
   pub listed-missing : (i at : ℕ) → Matches u frame q i at → (u .first ≤ at → at < u .first + length reference → ⊥) → getD (listedBases u reference frame q) (q .segment .clips .«left_soft» + i) 0 ≡ letterN
   listed-missing i at m h = listed-match i at m ∙ missing-base (u .alphabet) reference (u .first) at h
+
+  pub listed-place : (i at : ℕ) → Matches u frame q i at → (u .start ≤ at) × (at ≤ u .end)
+  listed-place i at m =
+      let w = under-place (mappedIn q) (beginning (q .position)) (editsIn u frame q) i at m in
+      (omega (arith, w .0, a .place .from), omega (arith, w .1, a .place .last))
 
   pub listed-edit : (i : ℕ) (e : Edit) → Brought u frame q i e → getD (listedBases u reference frame q) (q .segment .clips .«left_soft» + i) 0 ≡ letterOf (u .alphabet) (e .symbol)
   listed-edit = base-of-edit (u .class) (u .alphabet) frame reference (u .first) (q .position) (q .segment) (a .block)
