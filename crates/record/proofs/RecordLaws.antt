@@ -37,7 +37,7 @@ use Rattle.plan.specs.declared.read.Planned.the-variants.{Whole, Refused}
 use Rattle.plan.proofs.PlanLaws.{plan-taken, first-aligned, second-aligned}
 use Rattle.plan.proofs.RefusalLaws.{EarlyPlan, lent-early, plan-early}
 use Rattle.plan.proofs.StateLaws.{LentTaken, lent-taken}
-use Rattle.record.specs.Record.{linkBytes, listedBytes, after, stepBy, stepOf, withRoom, recordOf, planned}
+use Rattle.record.specs.Record.{linkBytes, listedBytes, after, stepBy, stepOf, withRoom, recordOf}
 use Rattle.record.proofs.BytesLaws.{tailBytes, listed-head, bytes-listed, length-listed, length-head, length-link}
 use Rattle.unit.proofs.ListedLaws.{length-head}
 
