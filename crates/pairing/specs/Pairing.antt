@@ -1,4 +1,5 @@
 -- Document 01, "Pairing (Table 60)": what the pair symbols of a record say, with refusals 5, 6 and 7.
+-- Read Table60 first. `decode` runs a case: `takes` is the next symbol or 5, `within16` is 7 above 65,535, `reserved` is 6, `sets` is the link. A refusal hands back the state as given.
 -- Assumes nothing.
 use Prim.Native.Nat.{ℕ}
 use mathlib.Core.List.{List}

@@ -1,4 +1,4 @@
--- `unit::alphabet::digits` meets its contract: both tables compute. Assumes nothing.
+-- `alphabet::digits` meets its contract: both tables compute. Assumes nothing.
 use Rattle.frame.specs.Hex.{glyph, hexOf}
 use Rattle.alphabet.specs.Table35.{letterOf}
 use Rattle.alphabet.specs.Digits.{lettersFrom, digitsOf}

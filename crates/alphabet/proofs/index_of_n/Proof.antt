@@ -1,4 +1,4 @@
--- `unit::alphabet::index_of_n` meets its contract. Assumes nothing.
+-- `alphabet::index_of_n` meets its contract. Assumes nothing.
 use Rattle.alphabet.specs.Table35.{codeOfN}
 use borrow.Author.Tests.{eq-eqb, ne-eqb}
 use Rattle.alphabet.proofs.index_of_n.Statement.{statement}

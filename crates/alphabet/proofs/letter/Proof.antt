@@ -1,4 +1,4 @@
--- `unit::alphabet::letter` meets its contract: inside the alphabet both tables compute, and outside it there is no letter. Assumes nothing.
+-- `alphabet::letter` meets its contract: inside the alphabet both tables compute, and outside it there is no letter. Assumes nothing.
 use mathlib.Core.Path.{sym}
 use lib.ListN.{List·getD-eq-default}
 use Rattle.alphabet.specs.Table35.{S₀, S₁, letterOf}

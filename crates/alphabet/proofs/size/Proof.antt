@@ -1,4 +1,4 @@
--- `unit::alphabet::size` meets its contract: each alphabet's letters are counted. Assumes nothing.
+-- `alphabet::size` meets its contract: each alphabet's letters are counted. Assumes nothing.
 use Rattle.alphabet.specs.Table35.{sizeOf}
 use borrow.Author.Tests.{eq-eqb, ne-eqb}
 use Rattle.alphabet.proofs.size.Statement.{statement}

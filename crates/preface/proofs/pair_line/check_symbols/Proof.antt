@@ -1,4 +1,4 @@
--- `unit::pair_line::check_symbols` meets its contract: each return is one law of the symbols that a count asks for. Assumes nothing.
+-- `preface::pair_line::check_symbols` meets its contract: each return is one law of the symbols that a count asks for. Assumes nothing.
 use native.Mathlib.Omega.{arith}
 use borrow.Author.Needs.{needs}
 use Rattle.preface.proofs.PairLaws.{count-above, symbols-other, symbols-just}

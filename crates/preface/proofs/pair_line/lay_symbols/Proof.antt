@@ -1,4 +1,4 @@
--- `unit::pair_line::lay_symbols` meets its contract. The loop's invariant: to store the symbols that are left, from here, gives what storing all gives. Assumes nothing.
+-- `preface::pair_line::lay_symbols` meets its contract. The loop's invariant: to store the symbols that are left, from here, gives what storing all gives. Assumes nothing.
 use Prim.Native.Nat.{_+_, _*_, _-_, _≤_}
 use native.Mathlib.Omega.{arith}
 use borrow.Author.Needs.{needs}

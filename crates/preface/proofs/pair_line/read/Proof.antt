@@ -1,4 +1,4 @@
--- `unit::pair_line::read` meets its contract: a refused line leaves the table, `table-kept`, and an accepted one stores its symbols, `table-stored`. Assumes nothing.
+-- `preface::pair_line::read` meets its contract: a refused line leaves the table, `table-kept`, and an accepted one stores its symbols, `table-stored`. Assumes nothing.
 use mathlib.Core.Path.{refl, sym, _∙_}
 use native.Mathlib.Omega.{arith}
 use Rattle.preface.specs.PairLine.{pairLine}

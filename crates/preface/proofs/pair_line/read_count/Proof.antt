@@ -1,4 +1,4 @@
--- `unit::pair_line::read_count` meets its contract: each answer and test on the way picks the definition's case. Assumes nothing.
+-- `preface::pair_line::read_count` meets its contract: each answer and test on the way picks the definition's case. Assumes nothing.
 use Rattle.preface.specs.PairLine.{pairCount}
 use Rattle.frame.proofs.StepLaws.{steps}
 use borrow.Author.Needs.{needs}

@@ -1,4 +1,4 @@
--- `unit::pair_line::symbol_at` meets its contract: the field is complete. Assumes nothing.
+-- `preface::pair_line::symbol_at` meets its contract: the field is complete. Assumes nothing.
 use mathlib.Core.Path.{sym, _∙_}
 use Rattle.preface.specs.PairLine.{symbolBytes}
 use Rattle.frame.proofs.FieldLaws.{value-is-field, never-short}

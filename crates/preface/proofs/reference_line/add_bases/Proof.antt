@@ -1,4 +1,4 @@
--- `unit::reference_line::add_bases` meets its contract: the tests on the way pick the case. Assumes nothing.
+-- `preface::reference_line::add_bases` meets its contract: the tests on the way pick the case. Assumes nothing.
 use Rattle.preface.specs.ReferenceLine.{addedBases}
 use Prim.Native.Nat.{_+_}
 use native.Mathlib.Omega.{arith}

@@ -1,4 +1,4 @@
--- `unit::reference_line::lay_bases` meets its contract. The loop's invariant: to store the bases that are left, from here, gives what storing all gives. Assumes nothing.
+-- `preface::reference_line::lay_bases` meets its contract. The loop's invariant: to store the bases that are left, from here, gives what storing all gives. Assumes nothing.
 use mathlib.Core.Path.{refl}
 use Prim.Native.Nat.{_-_}
 use native.Mathlib.Omega.{arith}

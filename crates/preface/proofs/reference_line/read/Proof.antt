@@ -1,4 +1,4 @@
--- `unit::reference_line::read` meets its contract: a refused line leaves the reference, `reference-kept`, and an accepted one stores its bases, `reference-stored`. Assumes nothing.
+-- `preface::reference_line::read` meets its contract: a refused line leaves the reference, `reference-kept`, and an accepted one stores its bases, `reference-stored`. Assumes nothing.
 use mathlib.Core.Path.{sym, _∙_}
 use native.Mathlib.Omega.{arith}
 use Rattle.preface.proofs.ReferenceLaws.{reference-accepted, reference-kept, reference-stored}

@@ -1,4 +1,4 @@
--- `unit::reference_line::read_count` meets its contract: each answer and test on the way picks the definition's case. Assumes nothing.
+-- `preface::reference_line::read_count` meets its contract: each answer and test on the way picks the definition's case. Assumes nothing.
 use Rattle.preface.specs.ReferenceLine.{referenceLine}
 use mathlib.Core.Path.{sym, _∙_}
 use native.Mathlib.Omega.{arith}

@@ -1,4 +1,4 @@
--- `unit::unit_line::put_template` meets its contract: five numbers, one behind the other. Assumes nothing.
+-- `preface::unit_line::put_template` meets its contract: five numbers, one behind the other. Assumes nothing.
 use mathlib.Core.List.{append-assoc}
 use native.Mathlib.Omega.{arith}
 use Rattle.frame.proofs.HexLaws.{length-be}

@@ -1,4 +1,4 @@
--- `unit::unit_line::read_ends` meets its contract: each answer and test on the way picks the definition's case. Assumes nothing.
+-- `preface::unit_line::read_ends` meets its contract: each answer and test on the way picks the definition's case. Assumes nothing.
 use Rattle.preface.specs.UnitLine.{unitEnds}
 use Rattle.frame.proofs.StepLaws.{steps}
 use borrow.Author.Needs.{needs}

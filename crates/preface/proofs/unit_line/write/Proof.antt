@@ -1,4 +1,4 @@
--- `unit::unit_line::write` meets its contract: `no-room`, and `room` over the two parts of the bytes. Assumes nothing.
+-- `preface::unit_line::write` meets its contract: `no-room`, and `room` over the two parts of the bytes. Assumes nothing.
 use native.Mathlib.Omega.{arith}
 use lib.ListN.{length-set}
 use Rattle.writing.proofs.LayLaws.{length-laid}

@@ -1,4 +1,4 @@
--- `frame::lay::digit_of` meets its contract. Assumes nothing.
+-- `writing::lay::digit_of` meets its contract. Assumes nothing.
 use borrow.Author.Tests.{le-ltb, lt-ltb}
 use Rattle.frame.specs.Hex.{glyph}
 use borrow.Author.Needs.{needs}

@@ -1,4 +1,4 @@
--- `frame::lay::put_byte` meets its contract: two stores are what `lay` says of one byte. Assumes nothing.
+-- `writing::lay::put_byte` meets its contract: two stores are what `lay` says of one byte. Assumes nothing.
 use native.Mathlib.Omega.{arith}
 use lib.ListN.{length-set}
 use Rattle.writing.specs.Lay.{lay}

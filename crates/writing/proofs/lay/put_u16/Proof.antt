@@ -1,4 +1,4 @@
--- `frame::lay::put_u16` meets its contract: the high byte and then the low one, `be-add`. Assumes nothing.
+-- `writing::lay::put_u16` meets its contract: the high byte and then the low one, `be-add`. Assumes nothing.
 use native.Mathlib.Omega.{arith}
 use Rattle.frame.proofs.HexLaws.{be-add, length-be}
 use Rattle.writing.proofs.LayLaws.{laid-as, laid-then, laid-room}

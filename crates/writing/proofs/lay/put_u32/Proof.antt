@@ -1,4 +1,4 @@
--- `frame::lay::put_u32` meets its contract: the upper half and then the lower, `be-add`. Assumes nothing.
+-- `writing::lay::put_u32` meets its contract: the upper half and then the lower, `be-add`. Assumes nothing.
 use native.Mathlib.Omega.{arith}
 use Rattle.frame.proofs.HexLaws.{be-add, length-be}
 use Rattle.writing.proofs.LayLaws.{laid-as, laid-then, laid-room}

@@ -1,4 +1,4 @@
--- `frame::lay::put_u8` meets its contract: the low byte is the number's one byte, `be-one`. Assumes nothing.
+-- `writing::lay::put_u8` meets its contract: the low byte is the number's one byte, `be-one`. Assumes nothing.
 use Rattle.frame.proofs.HexLaws.{be-one}
 use Rattle.writing.proofs.LayLaws.{laid-as}
 use borrow.Author.Needs.{needs}

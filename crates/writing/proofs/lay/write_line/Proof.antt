@@ -1,4 +1,4 @@
--- `frame::lay::write_line` meets its contract: `no-room` and `room`. Assumes nothing.
+-- `writing::lay::write_line` meets its contract: `no-room` and `room`. Assumes nothing.
 use native.Mathlib.Omega.{arith}
 use Rattle.writing.proofs.WholeLaws.{no-room, room}
 use borrow.Author.Needs.{needs}
