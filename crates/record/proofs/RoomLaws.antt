@@ -1,26 +1,36 @@
 -- The laws of the last test: 17 and nothing written, or the line at the front and the next state.
 -- Assumes nothing.
-use mathlib.Core.Path.{_≡_, _∙_}
+use mathlib.Core.Path.{_≡_, refl, sym, _∙_}
 use mathlib.Core.List.{List}
 use Prim.Native.Nat.{ℕ, _+_, _*_, _<_, _≤_}
 use native.Mathlib.Nat.{zero-add}
 use borrow.Author.Tests.{lt-ltb, le-ltb}
+use lib.Dec.{ltb}
 use lib.ListN.{length, set}
 use Rattle.refusal.specs.Numbers.{noRoom}
-use Rattle.writing.specs.Lay.{Laid}
 use Rattle.frame.specs.Line.{lineEnd}
-use Rattle.writing.proofs.WholeLaws.{line-eq}
+use Rattle.frame.proofs.HexLaws.{by-test}
+use Rattle.writing.specs.Lay.{Laid}
+use Rattle.writing.specs.Whole.{lineInto}
+use Rattle.writing.proofs.WholeLaws.{no-room as line-no-room, room as line-room}
 use Rattle.unit.specs.Listed.{accepted}
 use Rattle.unit.specs.declared.State.{State}
 use Rattle.record.specs.Record.{refusedBy, listedBy, recorded, output, withRoom}
 
+-- what an accepted call leaves in the output is what writes any line there
+pub output-is-line : (s bs : List ℕ) (next : State) → output s (withRoom (length s) (accepted bs next)) ≡ lineInto s bs
+unfolding lineInto
+output-is-line s bs next = by-test (ltb (2 * length bs) (length s)) (λ t. simp t) (λ t. simp t)
+
 pub no-room : (state next : State) (s bs : List ℕ) → length s ≤ 2 * length bs
     → (refusedBy noRoom state ≡ recorded state (withRoom (length s) (accepted bs next))) × (s ≡ output s (withRoom (length s) (accepted bs next)))
-no-room state next s bs h = let t = le-ltb (2 * length bs) (length s) h in (simp t, simp t)
+no-room state next s bs h =
+    let t = le-ltb (2 * length bs) (length s) h in
+    (simp t, line-no-room s bs h .1 ∙ sym (output-is-line s bs next))
 
 pub room : (state next : State) (s bs : List ℕ) {e : List ℕ} {n : ℕ} → 2 * length bs < length s → Laid s e 0 n bs
     → (listedBy (n + 1) next ≡ recorded state (withRoom (length s) (accepted bs next))) × (set e n lineEnd ≡ output s (withRoom (length s) (accepted bs next)))
 room state next s bs {e} {n} h f =
     let t = lt-ltb (2 * length bs) (length s) h in
     let q : n ≡ 2 * length bs = f .to ∙ zero-add (2 * length bs) in
-    (simp (t, q), simp (t, q, f .holds) (line-eq s bs h))
+    (simp (t, q), line-room s bs h f .1 ∙ sym (output-is-line s bs next))

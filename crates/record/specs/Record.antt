@@ -1,7 +1,6 @@
 -- The record call (document 01, The listing and Order): its 04 line and the next state, or a refusal number.
 -- Assumes nothing.
 use Prim.Native.Nat.{ℕ, suc, _+_, _*_}
-use mathlib.Core.Bool.{cond}
 use mathlib.Core.List.{List, _∷_, _++_}
 use lib.Dec.{ltb, eqb}
 use lib.ListN.{length, drop}
@@ -88,7 +87,8 @@ abbrev pub recorded : State → Step → Recorded
 recorded state (refused n) = refusedBy n state
 recorded state (accepted frame next) = listedBy (2 * length frame + 1) next
 
--- "An accepted call writes its line at the front and nothing behind it"; after a refusal "no lent byte differs"
+-- "An accepted call writes its line at the front and nothing behind it"; after a refusal "no lent byte differs".
+-- `output-is-line` (proofs/RoomLaws): with room or without, this is writing's `lineInto`
 abbrev pub output : (out : List ℕ) → Step → List ℕ
 output out (refused n) = out
 output out (accepted frame next) = hexOf frame ++ lineEnd ∷ drop (suc (2 * length frame)) out

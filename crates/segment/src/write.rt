@@ -6,7 +6,6 @@ use unit::Unit;
 use writing::lay::put_u8;
 use writing::lay::put_u16;
 use writing::lay::put_u32;
-ghost use mathlib.Core.Path.{_≡_};
 ghost use Prim.Native.Nat.{_+_, _*_, _≤_};
 ghost use lib.ListN.{length};
 ghost use Rattle.frame.specs.Hex.{unhex};

@@ -3,7 +3,6 @@ use mathlib.Core.Path.{refl}
 use Rattle.frame.proofs.StepLaws.{when, unless, same, differ}
 use Rattle.segment.proofs.Steps.{accepted, rejected, clipped, unclipped}
 use Rattle.segment.specs.Aligned.{fromClips}
-use borrow.Author.Tests.{le-ltb, lt-ltb}
 use borrow.Author.Needs.{needs}
 use Rattle.segment.proofs.aligned.from_clips.Statement.{statement}
 use Rattle.segment.proofs.aligned.from_clips.Tie as tie

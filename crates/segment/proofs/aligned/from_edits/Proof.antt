@@ -3,7 +3,6 @@ use mathlib.Core.Path.{refl}
 use Rattle.frame.proofs.StepLaws.{when, unless, same, differ}
 use Rattle.segment.proofs.Steps.{accepted, rejected, clipped, unclipped}
 use Rattle.segment.specs.Aligned.{fromEdits}
-use borrow.Author.Tests.{eq-eqb, ne-eqb}
 use borrow.Author.Needs.{needs}
 use Rattle.segment.proofs.aligned.from_edits.Statement.{statement}
 use Rattle.segment.proofs.aligned.from_edits.Tie as tie

@@ -2,7 +2,6 @@
 use mathlib.Core.Path.{refl}
 use Rattle.frame.proofs.StepLaws.{when, unless, same, differ, value, ended}
 use Rattle.segment.specs.Checked.{lengthAt}
-use borrow.Author.Tests.{le-ltb, lt-ltb}
 use borrow.Author.Needs.{needs}
 use Rattle.segment.proofs.checked.read_length.Statement.{statement}
 use Rattle.segment.proofs.checked.read_length.Tie as tie

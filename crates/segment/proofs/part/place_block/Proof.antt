@@ -4,7 +4,6 @@ use native.Mathlib.Omega.{arith}
 use Rattle.segment.proofs.PlaceLaws.{place-inside}
 use Rattle.segment.proofs.Steps.{passes, stops}
 use Rattle.segment.specs.Part.{placed}
-use borrow.Author.Tests.{eq-eqb, ne-eqb}
 use borrow.Author.Needs.{needs}
 use Rattle.segment.proofs.part.place_block.Statement.{statement}
 use Rattle.segment.proofs.part.place_block.Tie as tie

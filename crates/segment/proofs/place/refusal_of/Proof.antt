@@ -2,7 +2,6 @@
 use mathlib.Core.Path.{refl}
 use Rattle.frame.proofs.StepLaws.{when, unless}
 use Rattle.segment.specs.Place.{placeRefusal}
-use borrow.Author.Tests.{le-ltb, lt-ltb}
 use borrow.Author.Needs.{needs}
 use Rattle.segment.proofs.place.refusal_of.Statement.{statement}
 use Rattle.segment.proofs.place.refusal_of.Tie as tie

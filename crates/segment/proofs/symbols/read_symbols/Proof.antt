@@ -6,7 +6,6 @@ use Rattle.frame.specs.Hex.{unhex}
 use Rattle.frame.proofs.HexLaws.{length-unhex}
 use Rattle.segment.specs.Symbols.{symbolsFrom}
 use Rattle.segment.proofs.SymbolLaws.{symbols-short, symbols-out, symbols-on, symbols-end}
-use borrow.Author.Tests.{le-leb, lt-leb}
 use Rattle.segment.proofs.symbols.read_symbols.Statement.{statement}
 use Rattle.segment.proofs.symbols.read_symbols.Tie as tie
 

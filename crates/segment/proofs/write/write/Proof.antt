@@ -1,5 +1,4 @@
 -- `segment::write::write` meets its contract: the variant that was matched says which writer. Assumes nothing.
-use mathlib.Core.Path.{refl, sym, _∙_}
 use Rattle.writing.proofs.LayLaws.{laid-none}
 use Rattle.segment.specs.Part.{partBytes}
 use borrow.Author.Needs.{needs}

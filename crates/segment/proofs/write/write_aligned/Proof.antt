@@ -1,6 +1,5 @@
 -- `segment::write::write_aligned` meets its contract: six pieces, each right behind the last. Assumes nothing.
 use borrow.Author.Needs.{needs}
-use mathlib.Core.Path.{sym}
 use native.Mathlib.Omega.{arith}
 use lib.ListN.{length-append}
 use Rattle.frame.proofs.HexLaws.{length-be}
