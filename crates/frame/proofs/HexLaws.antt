@@ -1,7 +1,7 @@
 -- The laws of hexadecimal text: digits and bytes undo each other.
 -- Assumes nothing.
-use mathlib.Core.Path.{_≡_, refl, sym, ap, _∙_}
-use mathlib.Core.Bool.{Bool, true, false, cond}
+use mathlib.Core.Path.{_≡_, refl, ap}
+use mathlib.Core.Bool.{true}
 use mathlib.Core.Logic.{_⊎_, inl, inr, ⊎-elim}
 use mathlib.Core.List.{List, [], _∷_, _++_}
 use Prim.Native.Nat.{ℕ, zero, suc, _+_, _*_, _-_, _/_, _%_, _^_, _<_, _≤_}
@@ -11,16 +11,9 @@ use borrow.Author.Tests.{lt-ltb, le-ltb, ltb-true, ltb-false}
 use lib.Dec.{ltb, lit<}
 use lib.ListN.{length, getD}
 use lib.Pow.{pow-add}
+use Rattle.frame.proofs.Tests.{cond-of}
+pub use Rattle.frame.proofs.Tests.{by-test, false-true}
 use Rattle.frame.specs.Hex.{isDigit, nib, glyph, unhex, hexOf, allDigits, be, Bytes}
-
--- ---- by cases on a test
-
-pub by-test : {P : Type 0} (t : Bool) → (t ≡ true → P) → (t ≡ false → P) → P
-by-test true f g = f refl
-by-test false f g = g refl
-
-pub false-true : {P : Type 0} → false ≡ true → P
-false-true e = absurd (let z : _≡_ {A = ℕ} 0 1 = cc in omega arith)
 
 -- ---- a digit
 
@@ -32,14 +25,10 @@ nib-lt d = omega arith
 pub nib-below : {r : ℕ} (d : ℕ) → r ≡ nib d → r < 16
 nib-below d e = rw e (nib-lt d)
 
-nib-cond : (t : Bool) (x y n : ℕ) → (t ≡ true → nib x ≡ n) → (t ≡ false → nib y ≡ n) → nib (cond t x y) ≡ n
-nib-cond true x y n f g = f refl
-nib-cond false x y n f g = g refl
-
 pub nib-glyph : (n : ℕ) → n < 16 → nib (glyph n) ≡ n
 unfolding glyph nib
 nib-glyph n h =
-    nib-cond (ltb n 10) (48 + n) (87 + n) n
+    cond-of (λ x. nib x ≡ n) (ltb n 10) (48 + n) (87 + n)
     (λ a.
     let l : n < 10 = ltb-true n 10 a in
     let q : (48 + n) / 64 ≡ 0 = omega arith in
@@ -50,6 +39,11 @@ nib-glyph n h =
     let q : (87 + n) / 64 ≡ 1 = omega arith in
     let r : (87 + n) % 16 ≡ n - 9 = omega arith in
     rw (q, r) (omega arith))
+
+pub glyph-from : (d : ℕ) → 48 ≤ glyph d
+unfolding glyph
+glyph-from d =
+    by-test (ltb d 10) (λ e. rw e (omega arith)) (λ e. rw e (omega arith))
 
 pub digit-glyph : (n : ℕ) → n < 16 → isDigit (glyph n) ≡ true
 unfolding isDigit glyph

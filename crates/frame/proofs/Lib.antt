@@ -1,3 +1,4 @@
+pub mod Tests
 pub mod HexLaws
 pub mod FieldLaws
 pub mod LineLaws
@@ -5,4 +6,3 @@ pub mod NextLaws
 pub mod Unique
 pub mod StepLaws
 pub mod AnswerLaws
-pub mod Tests

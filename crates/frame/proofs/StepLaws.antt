@@ -64,6 +64,16 @@ module _ {X : Type 0} (x : X) where
   pub whole : (a : ℕ) (l : List ℕ) (p q : X) → length l / 2 ≤ a → x ≡ q → x ≡ cond (ltb a (length (unhex l))) p q
   whole a l p q h k = rw length-unhex (unless a (length l / 2) p q h k)
 
+-- ---- what holds of every end of a definition
+
+pub by-line : {X : Type 0} (P : X → Type 0) (r : Line) (bad x : X) → P bad → P x → P (afterLine bad r x)
+by-line P (Frame n) bad x h k = k
+by-line P Malformed bad x h k = h
+
+pub by-field : {X : Type 0} (P : X → Type 0) (r : Field) (short : X) (f : ℕ → Cursor → X) → P short → ((v : ℕ) (c : Cursor) → P (f v c)) → P (afterField short r f)
+by-field P (Value v c) short f h k = k v c
+by-field P Short short f h k = h
+
 -- ---- the way back: where the definition does not end early, what held
 
 -- what is left of a definition that comes to y, behind a line that is well formed
@@ -98,16 +108,6 @@ module _ {X : Type 0} {y : X} (bad : X) (other : bad ≡ y → ⊥) where
 
   pub past-match : (a b : ℕ) (x : X) → cond (eqb a b) x bad ≡ y → (a ≡ b) × (x ≡ y)
   past-match a b x e = by-test (eqb a b) (λ t. (eqb-true a b t, simp t at e)) (λ t. absurd (other (simp t at e)))
-
--- ---- what holds of every end of a definition
-
-pub by-line : {X : Type 0} (P : X → Type 0) (r : Line) (bad x : X) → P bad → P x → P (afterLine bad r x)
-by-line P (Frame n) bad x h k = k
-by-line P Malformed bad x h k = h
-
-pub by-field : {X : Type 0} (P : X → Type 0) (r : Field) (short : X) (f : ℕ → Cursor → X) → P short → ((v : ℕ) (c : Cursor) → P (f v c)) → P (afterField short r f)
-by-field P (Value v c) short f h k = k v c
-by-field P Short short f h k = h
 
 -- ---- all of them, for `search`
 

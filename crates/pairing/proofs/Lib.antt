@@ -6,3 +6,4 @@ pub mod Cases
 pub mod Reading
 pub mod Laws
 pub mod Examples
+pub mod MateLaws
