@@ -40,6 +40,11 @@ nib-glyph n h =
     let r : (87 + n) % 16 ≡ n - 9 = omega arith in
     rw (q, r) (omega arith))
 
+pub glyph-from : (d : ℕ) → 48 ≤ glyph d
+unfolding glyph
+glyph-from d =
+    by-test (ltb d 10) (λ e. rw e (omega arith)) (λ e. rw e (omega arith))
+
 pub digit-glyph : (n : ℕ) → n < 16 → isDigit (glyph n) ≡ true
 unfolding isDigit glyph
 digit-glyph n h =

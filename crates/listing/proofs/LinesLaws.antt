@@ -10,12 +10,12 @@ use mathlib.Core.Logic.{_⊎_, inl, inr}
 use mathlib.Core.List.{List, [], _∷_, _++_, append-assoc}
 use lib.ListN.{length, getD, take, drop, replicate, drop-of-length-le}
 use lib.Seq.{take-append-le, take-append-add, drop-cons, take-all, length-take-le}
-use lib.Dec.{eqb, ltb, leb}
+use lib.Dec.{eqb, leb}
 use borrow.Author.Tests.{eq-eqb, ne-eqb, eqb-true, leb-true, leb-false}
 use Rattle.frame.specs.Hex.{glyph, hexOf, unhex}
 use Rattle.frame.specs.Line.{lineEnd, lineWithin}
 use Rattle.frame.specs.declared.line.Line.the-variants.{Frame}
-use Rattle.frame.proofs.HexLaws.{by-test, false-true}
+use Rattle.frame.proofs.HexLaws.{by-test, false-true, glyph-from}
 use Rattle.frame.proofs.LineLaws.{lineOfBytes, frame-is-line}
 use Rattle.listing.specs.Lines.{pushByte, linesOf, ends, keptWith, kept, WholeLine, end, more, same}
 
@@ -74,11 +74,6 @@ same-near n a b h =
     same-longer (take n a) b (λ e. omega (arith, length-take-le n a (omega arith))) ∙ sym (same-longer a b (λ e. omega arith)))
 
 -- ---- whole lines
-
-glyph-from : (d : ℕ) → 48 ≤ glyph d
-unfolding glyph
-glyph-from d =
-    by-test (ltb d 10) (λ e. rw e (omega arith)) (λ e. rw e (omega arith))
 
 -- whatever its bytes are, what is written for them has one 0A, at its end, and no zero byte
 pub whole-bytes : (bs : List ℕ) → WholeLine (lineOfBytes bs)

@@ -15,7 +15,7 @@ use Rattle.pairing.proofs.Decoding.{Rising, Ends}
 -- every case
 
 -- what holds of each row of Table 60 holds of the case of any code
-by-case : (P : Steps → Type 0) (classId seqId code : ℕ) → P (same-rec classId) → P (split classId seqId 2 0) → P (split classId seqId 3 1) → P (diff-ref-seq classId 4 6 0) → P (diff-ref-seq classId 5 7 1) → P R1-unpaired → P R2-unpaired → P reserved → P (table60 classId seqId code)
+pub by-case : (P : Steps → Type 0) (classId seqId code : ℕ) → P (same-rec classId) → P (split classId seqId 2 0) → P (split classId seqId 3 1) → P (diff-ref-seq classId 4 6 0) → P (diff-ref-seq classId 5 7 1) → P R1-unpaired → P R2-unpaired → P reserved → P (table60 classId seqId code)
 unfolding table60
 by-case P classId seqId code r0 r1 r2 r3 r4 r5 r6 out =
     one-of P (eqb code 0) _ _ r0

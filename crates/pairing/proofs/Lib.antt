@@ -5,3 +5,5 @@ pub mod Decoding
 pub mod Cases
 pub mod Reading
 pub mod Laws
+pub mod Examples
+pub mod MateLaws

@@ -32,9 +32,9 @@ use Rattle.segment.specs.declared.part.Part.{Part}
 use Rattle.segment.specs.declared.part.Part.the-variants.{Aligned, Unaligned, Absent}
 use Rattle.segment.specs.declared.part.PartRead.{PartRead}
 use Rattle.segment.specs.declared.part.PartRead.the-variants as part
-use Rattle.segment.proofs.PartLaws.{Taken, placed-taken, plain-taken}
+use Rattle.segment.proofs.PartLaws.{Taken, placed-taken, plain-taken, absent-taken}
 use Rattle.segment.proofs.StandardLaws.{Accepted, placed-accepted, placed-aligned, plain-unaligned}
-use Rattle.plan.specs.Plan.{plan, finished, firstPart, secondPart, fromSecond, fromFirst, fromPos, refusedReading, settled, afterAnswer, fromKind, planOf, ReadyPlan, afterPart}
+use Rattle.plan.specs.Plan.{plan, finished, firstPart, secondPart, fromSecond, fromFirst, fromPos, refusedReading, settled, afterAnswer, fromKind, planOf, ReadyPlan, afterPart, afterSecond, afterFirst}
 use Rattle.plan.specs.Said.{Second, alone, behind, Blocks, PlanTaken}
 use Rattle.plan.specs.declared.read.Plan.{Plan}
 use Rattle.plan.specs.declared.read.Planned.{Planned}
@@ -102,10 +102,6 @@ module _ (u : Unit) (reference frame : List ℕ) (bytes : (i : ℕ) → getD fra
   second-taken link pos at p next q =
       by-test (ltb (u .class) classHM) (λ t. placed-taken u reference frame _ at p next bytes (simp t at q)) (λ t. plain-taken u reference frame at p next (simp t at q))
 
-  absent-taken : Taken u reference frame Absent 0
-  unfolding partBytes partLength
-  absent-taken = record { ready = tt; long = refl; most = omega arith; inside = omega arith }
-
   both-ready : (p : Plan) (a b : ℕ) → Taken u reference frame (p .first) a → Taken u reference frame (p .second) b → ReadyPlan u reference frame p
   both-ready p a b f s =
       record { first = f .ready; second = s .ready; first-long = f .long; second-long = s .long; first-most = f .most; second-most = s .most }
@@ -117,7 +113,7 @@ module _ (u : Unit) (reference frame : List ℕ) (bytes : (i : ℕ) → getD fra
       first = first-taken (p .pos) at (p .first) (b .next) (b .first)
 
       by : Second u reference frame p (b .next .at) → ReadyPlan u reference frame p
-      by (alone few e) = both-ready p _ 0 first (rw e absent-taken)
+      by (alone few e) = both-ready p _ 0 first (rw e (absent-taken u reference frame))
       by (behind two next e) = both-ready p _ _ first (second-taken (p .link) (p .pos) (b .next .at) (p .second) next e)
 
 -- ---- the whole line

@@ -131,3 +131,8 @@ plain-taken u reference frame at p next q = by (unalignedAt (u .alphabet) frame 
         let i : p ≡ Unaligned s = cc in
         let n : next .at ≡ s .next .at = ap (λ (c : Cursor). c .at) (cc) in
         rw (i, n) record { ready = record { framed = g .framed }; long = plain-long u reference frame s; most = plain-most frame s g; inside = g .inside }
+
+-- a segment that is not there
+pub absent-taken : (u : Unit) (reference frame : List ℕ) → Taken u reference frame Absent 0
+unfolding partBytes partLength
+absent-taken u reference frame = record { ready = tt; long = refl; most = omega arith; inside = omega arith }
