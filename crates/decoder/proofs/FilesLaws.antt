@@ -7,16 +7,13 @@ use mathlib.Core.List.{List, [], _∷_, _++_}
 use lib.ListN.{length}
 use Rattle.refusal.specs.Numbers.{Early}
 use Rattle.frame.specs.Hex.{unhex}
-use Rattle.frame.specs.Line.{lineOf}
-use Rattle.frame.specs.Field.{bigAt, fieldAt}
+use Rattle.frame.specs.Field.{bigAt}
 use Rattle.frame.proofs.HexLaws.{bytes-unhex}
-use Rattle.frame.proofs.StepLaws.{by-line as of-line, by-field as of-field}
-use Rattle.unit.specs.Kinds.{kindUnit, kindPair, kindReference}
-use Rattle.unit.specs.Unit.{mostRecords, mostReference, classP, classU, lastAlphabet, mostSegments, leastSegments}
-use Rattle.unit.specs.State.{mostSymbols, subsequences, tableLength}
-use Rattle.preface.specs.UnitLine.{unitLine, unitClass, unitTemplate, unitEnds, unitNumber}
-use Rattle.preface.specs.PairLine.{pairLine, pairCount, pairSymbols, pairNumber, pairHead, symbolsAt, symbolBytes}
-use Rattle.preface.specs.ReferenceLine.{basesOf, addedBases, referenceLine, referenceNumber, mostLineBases}
+use Rattle.unit.specs.Unit.{mostRecords, mostReference}
+use Rattle.unit.specs.State.{mostSymbols, tableLength}
+use Rattle.preface.specs.UnitLine.{unitLine}
+use Rattle.preface.specs.PairLine.{pairLine, pairHead, symbolsAt}
+use Rattle.preface.specs.ReferenceLine.{basesOf, referenceLine}
 use Rattle.unit.specs.declared.Unit.{Unit}
 use Rattle.preface.specs.declared.unit_line.UnitLine.{UnitLine}
 use Rattle.preface.specs.declared.unit_line.UnitLine.the-variants as unit

@@ -20,11 +20,11 @@ use Rattle.block.specs.declared.Clips.{Clips}
 use Rattle.block.specs.declared.Segment.{Segment}
 use Rattle.block.proofs.EditLaws.{Accepted, sound-tail, next-deletion, next-other, length-edits, sound-accepted}
 use Rattle.ecigar.specs.declared.walk.Walk.{Walk}
-use Rattle.ecigar.specs.Table90.{Operation, matched, substituted, inserted, deleted, roundClose, squareClose, printed, movesRead, movesReference, total, AllPositive}
-use Rattle.ecigar.specs.Ecigar.{setOut, joinsRun, past, matches, openRun, gap, mark, ending, operationsFrom, operationsOf, ecigarOf, clip, leftClip, rightClip, segmentEdits, segmentOperations, ecigarText, clipsLength}
-use Rattle.ecigar.proofs.PrintLaws.{length-counted, length-printed}
 use Rattle.ecigar.specs.declared.check.Checked.the-variants.{Fine}
 use Rattle.ecigar.specs.Check.{checkOf}
+use Rattle.ecigar.specs.Table90.{Operation, matched, substituted, inserted, deleted, roundClose, squareClose, printed, movesRead, movesReference, total, AllPositive}
+use Rattle.ecigar.specs.Ecigar.{setOut, joinsRun, past, matches, openRun, gap, mark, ending, operationsFrom, operationsOf, ecigarOf, clip, clipsLength, leftClip, rightClip, segmentEdits, segmentOperations, ecigarText}
+use Rattle.ecigar.proofs.PrintLaws.{length-counted, length-printed}
 use Rattle.ecigar.proofs.WalkLaws.{Open, length-mark, ending-both, text-on, text-end, past-next, past-kind, past-open, past-joined, past-apart, joins-true, matches-most, closed-most, edit-most, clip-soft, clip-hard, clip-none}
 use Rattle.ecigar.proofs.CheckLaws.{checked-fine}
 use Rattle.ecigar.proofs.TextLaws.{length-text}

@@ -18,6 +18,7 @@ use Rattle.block.specs.Segment.{noClips, mappedLength}
 use Rattle.block.specs.declared.edit.Edit.{Edit}
 use Rattle.block.specs.declared.Segment.{Segment}
 use Rattle.block.proofs.EditLaws.{length-edits, edits-none}
+use Rattle.alphabet.proofs.AlphabetLaws.{letter-of-n}
 use Rattle.ecigar.specs.Table90.{printed}
 use Rattle.ecigar.specs.Ecigar.{setOut, ecigarOf, clip, leftClip, rightClip, segmentEdits, ecigarText, offsetsOf, lettersIn, typesOf, Aligned}
 use Rattle.ecigar.specs.Table93.{item, decodeECigarMismatches}

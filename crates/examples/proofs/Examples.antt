@@ -16,8 +16,8 @@ use Rattle.frame.specs.Hex.{isDigit, nib, unhex, allDigits, be}
 use Rattle.pairing.specs.Pairing.{decode, recordSteps, pairOf}
 use Rattle.pairing.specs.Table60.{same-rec, table60}
 use Rattle.pairing.specs.Take.{takeOf}
-use Rattle.plan.specs.Lent.{countsOut, stateRefusal, lentRefusal}
 use Rattle.unit.specs.State.{within}
+use Rattle.plan.specs.Lent.{countsOut, stateRefusal, lentRefusal}
 use Rattle.plan.specs.Plan.{finished as finishedPlan, firstPart, secondPart, fromSecond, fromFirst, fromPos, fromKind, planOf}
 use Rattle.segment.specs.Aligned.{tallied as talliedSegment, fromEdits, fromSoft, fromClips, fromRcomp, alignedAt}
 use Rattle.segment.specs.Checked.{lengthAt, rcompAt, countAt}

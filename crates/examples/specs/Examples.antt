@@ -7,34 +7,13 @@ use mathlib.Core.Path.{_≡_}
 use mathlib.Core.List.{List, [], _∷_, _++_, map}
 use lib.ListN.{replicate, take, drop}
 use Rattle.refusal.specs.Numbers.{offsetOut}
-use Rattle.frame.specs.Line.{lineEnd, lineWithin}
-use Rattle.unit.specs.Unit.{classP, classN, classM, classI, classU, leastSegments, unitRefusal}
-use Rattle.unit.specs.State.{freshState, mostSymbols, within, tableLength}
-use Rattle.unit.specs.Listed.{Step, refused, accepted, leastListed, words, headOf}
+use Rattle.frame.specs.Line.{lineEnd}
+use Rattle.unit.specs.Unit.{classP, classN, classM, classI, classU}
+use Rattle.unit.specs.State.{freshState, mostSymbols, tableLength}
+use Rattle.unit.specs.Listed.{Step, refused, accepted, leastListed}
 use Rattle.unit.specs.declared.Unit.{Unit}
-use Rattle.bases.specs.Bases.{pastEdit, editBases, basesFrom, refusalFrom, lettersAt, basesText}
-use Rattle.bases.specs.Reference.{isLent, baseAt, baseRefusal, matchedBases, matchRefusal}
-use Rattle.block.specs.Edits.{widthOf, editAt, editsAt, nextOffset, deletionRefusal, editRefusal, takenFrom}
-use Rattle.ecigar.specs.Check.{editsRefusal, answered, editsChecked, checkOf}
-use Rattle.ecigar.specs.Ecigar.{joinsRun, past, matches, gap, mark, ending, operationsFrom, clip, segmentOperations, ecigarText}
-use Rattle.ecigar.specs.Table90.{printed}
-use Rattle.writing.specs.Decimal.{decimalF, decimal}
-use Rattle.frame.specs.Field.{bigAt, fieldAt}
-use Rattle.frame.specs.Hex.{isDigit, nib, unhex, allDigits, be}
-use Rattle.pairing.specs.Pairing.{decode, recordSteps, pairOf}
-use Rattle.pairing.specs.Table60.{same-rec, table60}
-use Rattle.pairing.specs.Take.{takeOf}
-use Rattle.plan.specs.Lent.{countsOut, stateRefusal, lentRefusal}
-use Rattle.plan.specs.Plan.{finished as finishedPlan, firstPart, secondPart, fromSecond, fromFirst, fromPos, fromKind, planOf}
-use Rattle.segment.specs.Aligned.{tallied as talliedSegment, fromEdits, fromSoft, fromClips, fromRcomp, alignedAt}
-use Rattle.segment.specs.Checked.{lengthAt, rcompAt, countAt}
-use Rattle.segment.specs.Clips.{clipsIn, clipsAt}
-use Rattle.segment.specs.Part.{placed, placedAt, plainAt, alignedBytes, unalignedBytes, partBytes}
-use Rattle.segment.specs.Place.{placeRefusal}
-use Rattle.segment.specs.Symbols.{symbolsFrom}
-use Rattle.segment.specs.Unaligned.{fromLength, unalignedAt}
-use Rattle.alphabet.specs.Table35.{sizeOf, letterOf, codeOfN}
-use Rattle.record.specs.Record.{stepOf, linkBytes, listedBytes}
+use Rattle.frame.specs.Hex.{unhex}
+use Rattle.record.specs.Record.{stepOf}
 
 -- ---- text
 

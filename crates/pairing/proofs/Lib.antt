@@ -5,5 +5,4 @@ pub mod Decoding
 pub mod Cases
 pub mod Reading
 pub mod Laws
-pub mod Examples
 pub mod MateLaws

@@ -11,13 +11,11 @@ use Rattle.refusal.specs.Numbers.{fine, Early, FineOrEarly}
 use Rattle.frame.specs.Hex.{unhex}
 use Rattle.frame.specs.Line.{lineOf}
 use Rattle.frame.specs.Field.{fieldAt}
-use Rattle.frame.specs.declared.field.Cursor.{Cursor}
-use Rattle.unit.specs.Kinds.{kindRecord}
-use Rattle.frame.proofs.StepLaws.{by-line, by-field}
-use Rattle.unit.specs.State.{subsequences, tableLength, within}
-use Rattle.alphabet.specs.Table35.{sizeOf}
-use Rattle.unit.specs.Unit.{classP, classI, classHM, classU, lastAlphabet, mostSegments, mostSequence, mostRecords, mostReference, leastSegments, unitRefusal}
 use Rattle.frame.proofs.Tests.{one-of}
+use Rattle.frame.proofs.StepLaws.{by-line, by-field}
+use Rattle.unit.specs.Kinds.{kindRecord}
+use Rattle.unit.specs.State.{subsequences, tableLength, within}
+use Rattle.unit.specs.Unit.{classHM, classU, mostSegments, mostReference, unitRefusal}
 use Rattle.unit.specs.declared.Unit.{Unit as UnitOf}
 use Rattle.unit.specs.declared.State.{State}
 use Rattle.unit.proofs.RefusalLaws.{unit-early}
@@ -30,9 +28,9 @@ use Rattle.segment.specs.declared.part.Part.{Part}
 use Rattle.segment.specs.declared.part.Part.the-variants.{Absent}
 use Rattle.segment.specs.declared.part.PartRead.{PartRead}
 use Rattle.segment.specs.declared.part.PartRead.the-variants as part
-use Rattle.plan.specs.Lent.{countsOut, stateRefusal, lentRefusal}
-use Rattle.plan.specs.Plan.{plan, finished, firstPart, secondPart, fromSecond, fromFirst, fromPos, settled, afterAnswer, fromKind, planOf, afterPart}
 use Rattle.segment.proofs.RefusalLaws.{EarlyPart, placed-early, plain-early}
+use Rattle.plan.specs.Lent.{countsOut, stateRefusal, lentRefusal}
+use Rattle.plan.specs.Plan.{plan, finished, firstPart, secondPart, afterPart, fromSecond, fromFirst, fromPos, settled, afterAnswer, fromKind, planOf}
 use Rattle.plan.specs.declared.read.Plan.{Plan}
 use Rattle.plan.specs.declared.read.Planned.{Planned}
 use Rattle.plan.specs.declared.read.Planned.the-variants.{Whole, Refused}

@@ -11,7 +11,6 @@ use Rattle.refusal.specs.Numbers.{malformed, misframed, noRoom, Refusal, Early}
 use Rattle.frame.specs.Hex.{unhex}
 use Rattle.frame.specs.Line.{lineOf}
 use Rattle.frame.specs.Field.{fieldAt}
-use Rattle.frame.specs.declared.field.Cursor.{Cursor}
 use Rattle.frame.proofs.Tests.{cond-of, one-of}
 use Rattle.frame.proofs.StepLaws.{by-line, by-field}
 use Rattle.unit.specs.Kinds.{kindUnit, kindPair, kindReference}

@@ -12,11 +12,11 @@ use lib.Seq.{length-take-le}
 use Rattle.refusal.specs.Numbers.{fine, Early}
 use Rattle.refusal.proofs.RefusalLaws.{by-number}
 use Rattle.frame.specs.Hex.{Bytes, unhex}
-use Rattle.frame.specs.Line.{lineDigits, lineEnd, lineOf, lineWithin}
+use Rattle.frame.specs.Line.{lineDigits, lineEnd, lineOf}
+use Rattle.frame.specs.Field.{bigAt}
 use Rattle.frame.specs.declared.line.Line.the-variants.{Frame, Malformed}
 use Rattle.frame.proofs.HexLaws.{by-test, byte-lt}
 use Rattle.frame.proofs.LineLaws.{line-too-long, line-unended}
-use Rattle.frame.specs.Field.{bigAt}
 use Rattle.unit.specs.State.{subsequences}
 use Rattle.unit.specs.Listed.{mostListed, leastListed, headOf, Step, refused, accepted}
 use Rattle.unit.specs.declared.Unit.{Unit as UnitOf}
@@ -38,7 +38,7 @@ use Rattle.plan.proofs.PlanLaws.{plan-taken, first-aligned, second-aligned}
 use Rattle.plan.proofs.RefusalLaws.{EarlyPlan, lent-early, plan-early}
 use Rattle.plan.proofs.StateLaws.{LentTaken, lent-taken}
 use Rattle.record.specs.Record.{linkBytes, listedBytes, after, stepBy, stepOf, withRoom, recordOf}
-use Rattle.record.proofs.BytesLaws.{tailBytes, listed-head, bytes-listed, length-listed, length-head, length-link}
+use Rattle.record.proofs.BytesLaws.{tailBytes, listed-head, bytes-listed, length-listed, length-link}
 use Rattle.unit.proofs.ListedLaws.{length-head}
 
 -- exactly so many bytes stand before the segments

@@ -3,13 +3,14 @@ use borrow.Author.Needs.{needs}
 use mathlib.Core.Path.{_≡_, refl, sym, _∙_}
 use Prim.Native.Nat.{_≤_, _-_}
 use native.Mathlib.Omega.{arith}
-use borrow.Author.Tests.{not-true, not-false, eq-eqb, le-ltb, lt-ltb, ne-eqb}
+use borrow.Author.Tests.{not-true, not-false}
 use denote.Ref.{now}
 use lib.ListN.{length, take}
 use lib.Seq.{slice}
 use Rattle.frame.specs.Hex.{allDigits}
 use Rattle.frame.specs.Line.{lineWithin}
 use Rattle.frame.proofs.LineLaws.{digits-step, digits-stop, digits-end}
+use borrow.Author.Tests.{eq-eqb, le-ltb, lt-ltb, ne-eqb}
 use Rattle.frame.proofs.line.line_within.Statement.{statement}
 use Rattle.frame.proofs.line.line_within.Tie as tie
 
