@@ -30,7 +30,7 @@ use Rattle.segment.specs.declared.unaligned.Unaligned.{Unaligned as Unal
 use Rattle.segment.specs.declared.unaligned.UnalignedBlock.{UnalignedBlock}
 use Rattle.segment.specs.declared.unaligned.UnalignedBlock.the-variants as unaligned
 use Rattle.segment.specs.declared.part.Part.{Part}
-use Rattle.segment.specs.declared.part.Part.the-variants.{Unaligned}
+use Rattle.segment.specs.declared.part.Part.the-variants.{Unaligned, Absent}
 use Rattle.segment.specs.declared.part.PartRead.{PartRead}
 use Rattle.segment.specs.declared.part.PartRead.the-variants.{Whole, Refused}
 use Rattle.segment.proofs.ReadyLaws.{ReadyBlock, block-ready, length-got, symbols-got}
