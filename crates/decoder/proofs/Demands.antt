@@ -32,12 +32,12 @@ use Rattle.block.specs.declared.edit.Edit.{Edit}
 use Rattle.ecigar.specs.Table90.{printed as written, movesRead, movesReference, total, AllPositive}
 use Rattle.bases.specs.Bases.{lettersAt}
 use Rattle.bases.proofs.ReadLaws.{getD-letters}
-use Rattle.segment.specs.Part.{partBytes, alignedBytes, unalignedBytes}
-use Rattle.segment.specs.Listed.{listedBases, listedEcigar, listedOperations, mappedIn, table92, Matches, Brought, Letter}
-use Rattle.segment.specs.declared.part.Placed.{Placed}
+use Rattle.part.specs.Part.{partBytes, alignedBytes, unalignedBytes}
+use Rattle.part.specs.Listed.{listedBases, listedEcigar, listedOperations, mappedIn, table92, Matches, Brought, Letter}
+use Rattle.part.specs.declared.Placed.{Placed}
 use Rattle.segment.specs.declared.unaligned.Unaligned.{Unaligned as UnalignedOf}
-use Rattle.segment.specs.declared.part.Part.the-variants.{Aligned, Unaligned, Absent}
-use Rattle.segment.proofs.StandardLaws.{Accepted, listed-is-table92, listed-operations, listed-counts, listed-reads, listed-end, listed-length, listed-from, listed-place, listed-lent, listed-missing, listed-edit, listed-left, listed-right, listed-letter}
+use Rattle.part.specs.declared.Part.the-variants.{Aligned, Unaligned, Absent}
+use Rattle.part.proofs.StandardLaws.{Accepted, listed-is-table92, listed-operations, listed-counts, listed-reads, listed-end, listed-length, listed-from, listed-place, listed-lent, listed-missing, listed-edit, listed-left, listed-right, listed-letter}
 use Rattle.plan.specs.Plan.{planOf}
 use Rattle.plan.specs.Said.{Blocks, AlignedIn}
 use Rattle.plan.specs.declared.read.Plan.{Plan}

@@ -18,7 +18,7 @@ use Rattle.preface.proofs.StoreLaws.{length-stored, stored-inside, stored-befor
 use Rattle.preface.proofs.UnitLaws.{UnitFits, unit-fits, unit-valid}
 use Rattle.pairing.specs.Table60.{mateSeqId, mappingPos}
 use Rattle.pairing.proofs.Laws.{link-within}
-use Rattle.segment.specs.declared.part.Placed.{Placed}
+use Rattle.part.specs.declared.Placed.{Placed}
 use Rattle.plan.specs.Plan.{planOf}
 use Rattle.plan.specs.Said.{PlanTaken, AlignedIn}
 use Rattle.plan.specs.declared.read.Plan.{Plan}

@@ -22,8 +22,8 @@ use Rattle.plan.specs.Plan.{finished as finishedPlan, firstPart, secondPart, fr
 use Rattle.segment.specs.Aligned.{tallied as talliedSegment, fromEdits, fromSoft, fromClips, fromRcomp, alignedAt}
 use Rattle.segment.specs.Checked.{lengthAt, rcompAt, countAt}
 use Rattle.segment.specs.Clips.{clipsIn, clipsAt}
-use Rattle.segment.specs.Part.{placed, placedAt, plainAt, alignedBytes, unalignedBytes, partBytes}
-use Rattle.segment.specs.Place.{placeRefusal}
+use Rattle.part.specs.Part.{placed, placedAt, plainAt, alignedBytes, unalignedBytes, partBytes}
+use Rattle.part.specs.Place.{placeRefusal}
 use Rattle.segment.specs.Symbols.{symbolsFrom}
 use Rattle.segment.specs.Unaligned.{fromLength, unalignedAt}
 use Rattle.alphabet.specs.Table35.{sizeOf, letterOf, codeOfN}

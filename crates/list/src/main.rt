@@ -2,14 +2,14 @@
 // A listing that ends in 05 is an answer like any other. What goes wrong outside of the lines, such as a file that is not there, is said on standard error.
 use libc::STDERR_FILENO;
 use libc::STDOUT_FILENO;
-use stream::args::asks_help;
-use stream::args::is_whole;
-use stream::sink::Sink;
-use supply::front::Front;
-use supply::front::open;
+use opening::first::with_first;
+use opening::front::Front;
+use opening::front::open;
+use program::args::asks_help;
+use program::args::is_whole;
+use program::sink::Sink;
 use supply::rest::finish;
 use supply::rest::rest;
-use supply::rest::with_first;
 use unit::State;
 use unit::Unit;
 

@@ -18,7 +18,7 @@ use Rattle.pairing.specs.declared.Mate.{Mate}
 use Rattle.pairing.specs.declared.Mate.the-variants.{Unpaired, Near, Far}
 use Rattle.pairing.proofs.Cases.{MateWithin}
 use Rattle.pairing.proofs.Laws.{link-within, link-alone}
-use Rattle.segment.proofs.PlaceLaws.{placed-inside}
+use Rattle.part.proofs.PlaceLaws.{placed-inside}
 use Rattle.pairing.proofs.MateLaws.{link-together}
 use Rattle.plan.specs.Plan.{secondPart}
 use Rattle.plan.specs.declared.read.Plan.{Plan}

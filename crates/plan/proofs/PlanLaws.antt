@@ -25,14 +25,14 @@ use Rattle.pairing.specs.Pairing.{pairOf}
 use Rattle.pairing.specs.declared.Answer.{Answer}
 use Rattle.pairing.specs.declared.Answer.the-variants as pair
 use Rattle.pairing.specs.declared.Link.{Link}
-use Rattle.segment.specs.declared.part.Placed.{Placed}
+use Rattle.part.specs.declared.Placed.{Placed}
 use Rattle.segment.specs.declared.unaligned.Unaligned.{Unaligned as UnalignedOf}
-use Rattle.segment.specs.declared.part.Part.{Part}
-use Rattle.segment.specs.declared.part.Part.the-variants.{Aligned, Unaligned, Absent}
-use Rattle.segment.specs.declared.part.PartRead.{PartRead}
-use Rattle.segment.specs.declared.part.PartRead.the-variants as part
-use Rattle.segment.proofs.PartLaws.{Taken, placed-taken, plain-taken, absent-taken}
-use Rattle.segment.proofs.StandardLaws.{Accepted, placed-accepted, placed-aligned, plain-unaligned}
+use Rattle.part.specs.declared.Part.{Part}
+use Rattle.part.specs.declared.Part.the-variants.{Aligned, Unaligned, Absent}
+use Rattle.part.specs.declared.PartRead.{PartRead}
+use Rattle.part.specs.declared.PartRead.the-variants as part
+use Rattle.part.proofs.PartLaws.{Taken, placed-taken, plain-taken, absent-taken}
+use Rattle.part.proofs.StandardLaws.{Accepted, placed-accepted, placed-aligned, plain-unaligned}
 use Rattle.plan.specs.Plan.{plan, finished, firstPart, secondPart, afterPart, fromSecond, fromFirst, fromPos, refusedReading, settled, afterAnswer, fromKind, planOf, ReadyPlan}
 use Rattle.plan.specs.Said.{Second, alone, behind, Blocks, PlanTaken}
 use Rattle.plan.specs.declared.read.Plan.{Plan}

@@ -24,11 +24,11 @@ use Rattle.pairing.specs.declared.Answer.{Answer}
 use Rattle.pairing.specs.declared.Answer.the-variants as pair
 use Rattle.pairing.specs.declared.Link.{Link}
 use Rattle.pairing.proofs.Laws.{pair-told}
-use Rattle.segment.specs.declared.part.Part.{Part}
-use Rattle.segment.specs.declared.part.Part.the-variants.{Absent}
-use Rattle.segment.specs.declared.part.PartRead.{PartRead}
-use Rattle.segment.specs.declared.part.PartRead.the-variants as part
-use Rattle.segment.proofs.RefusalLaws.{EarlyPart, placed-early, plain-early}
+use Rattle.part.specs.declared.Part.{Part}
+use Rattle.part.specs.declared.Part.the-variants.{Absent}
+use Rattle.part.specs.declared.PartRead.{PartRead}
+use Rattle.part.specs.declared.PartRead.the-variants as part
+use Rattle.part.proofs.RefusalLaws.{EarlyPart, placed-early, plain-early}
 use Rattle.plan.specs.Lent.{countsOut, stateRefusal, lentRefusal}
 use Rattle.plan.specs.Plan.{plan, finished, firstPart, secondPart, afterPart, fromSecond, fromFirst, fromPos, settled, afterAnswer, fromKind, planOf}
 use Rattle.plan.specs.declared.read.Plan.{Plan}

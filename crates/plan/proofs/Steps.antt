@@ -10,9 +10,9 @@ use Rattle.unit.specs.declared.Unit.{Unit}
 use Rattle.pairing.specs.declared.Answer.the-variants as pair
 use Rattle.pairing.specs.declared.Link.{Link}
 use Rattle.pairing.specs.declared.Paired.{Paired}
-use Rattle.segment.specs.declared.part.Part.{Part}
-use Rattle.segment.specs.declared.part.PartRead.{PartRead}
-use Rattle.segment.specs.declared.part.PartRead.the-variants as part
+use Rattle.part.specs.declared.Part.{Part}
+use Rattle.part.specs.declared.PartRead.{PartRead}
+use Rattle.part.specs.declared.PartRead.the-variants as part
 use Rattle.plan.specs.Plan.{afterPart, fromPos, refusedReading, settled, afterPair}
 use Rattle.plan.specs.declared.read.Plan.{Plan}
 use Rattle.plan.specs.declared.read.Planned.{Planned}

@@ -22,12 +22,12 @@ use Rattle.pairing.specs.declared.Answer.{Answer}
 use Rattle.pairing.specs.declared.Answer.the-variants as pair
 use Rattle.pairing.specs.declared.Link.{Link}
 use Rattle.pairing.specs.declared.Paired.{Paired}
-use Rattle.segment.specs.Part.{partNumber, placedAt, plainAt, partBytes, partLength, mostPart}
-use Rattle.segment.specs.Ready.{Ready}
-use Rattle.segment.specs.declared.part.Part.{Part}
-use Rattle.segment.specs.declared.part.Part.the-variants.{Absent}
-use Rattle.segment.specs.declared.part.PartRead.{PartRead}
-use Rattle.segment.specs.declared.part.PartRead.the-variants as part
+use Rattle.part.specs.Part.{partNumber, placedAt, plainAt, partBytes, partLength, mostPart}
+use Rattle.part.specs.Ready.{Ready}
+use Rattle.part.specs.declared.Part.{Part}
+use Rattle.part.specs.declared.Part.the-variants.{Absent}
+use Rattle.part.specs.declared.PartRead.{PartRead}
+use Rattle.part.specs.declared.PartRead.the-variants as part
 use Rattle.plan.specs.declared.read.Plan.{Plan}
 use Rattle.plan.specs.declared.read.Planned.{Planned}
 use Rattle.plan.specs.declared.read.Reading.{Reading}

@@ -15,9 +15,9 @@ use Rattle.unit.specs.declared.Unit.{Unit}
 use Rattle.unit.specs.declared.State.{State}
 use Rattle.pairing.specs.Pairing.{pairOf}
 use Rattle.pairing.specs.declared.Answer.the-variants as pair
-use Rattle.segment.specs.declared.part.Placed.{Placed}
-use Rattle.segment.specs.declared.part.Part.the-variants.{Aligned, Absent}
-use Rattle.segment.specs.declared.part.PartRead.the-variants as part
+use Rattle.part.specs.declared.Placed.{Placed}
+use Rattle.part.specs.declared.Part.the-variants.{Aligned, Absent}
+use Rattle.part.specs.declared.PartRead.the-variants as part
 use Rattle.plan.specs.Plan.{firstPart, secondPart, ReadyPlan}
 use Rattle.plan.specs.declared.read.Plan.{Plan}
 

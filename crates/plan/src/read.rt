@@ -4,8 +4,8 @@ use frame::field::Field;
 use frame::line::Line;
 use pairing::Answer;
 use pairing::Link;
-use segment::part::Part;
-use segment::part::PartRead;
+use part::Part;
+use part::PartRead;
 use unit::State;
 use unit::Unit;
 use unit::kind::Kind;
@@ -136,9 +136,9 @@ fn first_part(unit: Unit, reference: &[u8], line: &[u8], pos: u32, c: Cursor) ->
     ensures { λ r. ⌜ r ≡ firstPart unit (now (reference .entry)) (unhex (now (line .entry))) pos (c .at) ⌝ }
 {
     if unit.class == Unit::U {
-        return segment::part::read_unaligned(line, unit, c);
+        return part::read_unaligned(line, unit, c);
     }
-    segment::part::read_aligned(line, unit, reference, pos as u64, c)
+    part::read_aligned(line, unit, reference, pos as u64, c)
 }
 
 fn from_second(
@@ -187,9 +187,9 @@ fn second_part(
     ensures { λ r. ⌜ r ≡ secondPart unit (now (reference .entry)) (unhex (now (line .entry))) link pos (c .at) ⌝ }
 {
     if unit.class < Unit::HM {
-        return segment::part::read_aligned(line, unit, reference, link.mate_position(pos), c);
+        return part::read_aligned(line, unit, reference, link.mate_position(pos), c);
     }
-    segment::part::read_unaligned(line, unit, c)
+    part::read_unaligned(line, unit, c)
 }
 
 // Nothing may be left over.

@@ -12,10 +12,10 @@ use Rattle.unit.specs.declared.Unit.{Unit}
 use Rattle.unit.specs.declared.State.{State}
 use Rattle.pairing.specs.Table60.{mateSeqId, mappingPos}
 use Rattle.pairing.specs.declared.Link.{Link}
-use Rattle.segment.specs.Part.{partBytes, partLength}
+use Rattle.part.specs.Part.{partBytes, partLength}
 use Rattle.plan.specs.Plan.{ReadyPlan}
 use Rattle.plan.specs.declared.read.Plan.{Plan}
-use Rattle.segment.proofs.BytesLaws.{bytes-part}
+use Rattle.part.proofs.BytesLaws.{bytes-part}
 use Rattle.unit.proofs.ListedLaws.{length-head, bytes-head}
 use Rattle.record.specs.Record.{linkBytes, listedBytes}
 

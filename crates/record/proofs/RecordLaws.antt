@@ -25,9 +25,9 @@ use Rattle.pairing.specs.Table60.{mappingPos}
 use Rattle.pairing.specs.Pairing.{pairOf}
 use Rattle.pairing.specs.declared.Link.{Link}
 use Rattle.pairing.proofs.Laws.{pair-follows, pair-within}
-use Rattle.segment.specs.declared.part.Placed.{Placed}
-use Rattle.segment.specs.declared.part.Part.the-variants.{Aligned}
-use Rattle.segment.proofs.StandardLaws.{Accepted}
+use Rattle.part.specs.declared.Placed.{Placed}
+use Rattle.part.specs.declared.Part.the-variants.{Aligned}
+use Rattle.part.proofs.StandardLaws.{Accepted}
 use Rattle.plan.specs.Lent.{lentRefusal}
 use Rattle.plan.specs.Plan.{planOf}
 use Rattle.plan.specs.Said.{PlanTaken, AlignedIn}

@@ -13,7 +13,7 @@ use Rattle.unit.specs.declared.Unit.{Unit}
 use Rattle.unit.specs.declared.State.{State}
 use Rattle.pairing.specs.Table60.{mateSeqId, mappingPos}
 use Rattle.pairing.specs.declared.Link.{Link}
-use Rattle.segment.specs.Part.{partBytes}
+use Rattle.part.specs.Part.{partBytes}
 use Rattle.plan.specs.Lent.{lentRefusal}
 use Rattle.plan.specs.Plan.{plannedNumber, planOf}
 use Rattle.plan.specs.declared.read.Plan.{Plan}

@@ -1,7 +1,7 @@
 // The 04 line of a record that is checked, laid into the lent line.
 use pairing::Link;
+use part::write as segment_write;
 use plan::read::Plan;
-use segment::write as segment_write;
 use unit::State;
 use unit::Unit;
 use unit::kind::Kind;

@@ -1,24 +1,22 @@
 // Goes on with a listing that was stopped: writes the kept lines of the found file to standard output, then the missing ones.
 // A refused resume is an answer like any other. What goes wrong outside of the lines, such as a file that is not there, is said on standard error.
-mod found;
-
 use found::Found;
 use found::copy;
 use found::find;
 use libc::STDERR_FILENO;
 use libc::STDOUT_FILENO;
 use listing::close::NO_RECORD;
+use opening::first::with_first;
+use opening::front::Front;
+use opening::front::Opened;
+use opening::front::open;
+use program::args::asks_help;
+use program::args::is_whole;
+use program::sink::Sink;
+use program::sink::with_refused;
 use resuming::place::Go;
-use stream::args::asks_help;
-use stream::args::is_whole;
-use stream::sink::Sink;
-use stream::sink::with_refused;
-use supply::front::Front;
-use supply::front::Opened;
-use supply::front::open;
 use supply::rest::finish;
 use supply::rest::rest;
-use supply::rest::with_first;
 use unit::State;
 use unit::Unit;
 

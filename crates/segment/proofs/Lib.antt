@@ -1,10 +1,5 @@
 pub mod Steps
-pub mod PlaceLaws
 pub mod SymbolLaws
-pub mod WriteLaws
 pub mod ReadyLaws
-pub mod PartLaws
-pub mod StandardLaws
 pub mod Unique
 pub mod RefusalLaws
-pub mod BytesLaws

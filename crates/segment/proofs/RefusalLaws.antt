@@ -1,18 +1,16 @@
--- The laws of a segment's refusals: each is a number of the table but 17.
+-- A block is refused by a number of document 01's table below 17.
 -- Assumes nothing.
 use mathlib.Core.List.{List}
 use Prim.Native.Nat.{ℕ, zero, suc, _+_}
 use lib.Dec.{ltb, leb, eqb, lit<}
 use lib.ListN.{length, getD}
-use Rattle.refusal.specs.Numbers.{fine, Early, FineOrEarly}
-use Rattle.refusal.proofs.RefusalLaws.{by-number}
+use Rattle.refusal.specs.Numbers.{Early}
 use Rattle.frame.specs.Field.{fieldAt}
 use Rattle.frame.specs.declared.field.Cursor.{Cursor}
 use Rattle.frame.proofs.Tests.{one-of}
 use Rattle.frame.proofs.StepLaws.{by-field}
 use Rattle.alphabet.specs.Table35.{sizeOf}
 use Rattle.unit.specs.Unit.{classP, classI}
-use Rattle.unit.specs.declared.Unit.{Unit as UnitOf}
 use Rattle.block.specs.Segment.{mostRead, mostEdits, softBases, mappedLength}
 use Rattle.block.specs.declared.Clips.{Clips}
 use Rattle.block.specs.declared.Segment.{Segment}
@@ -20,14 +18,11 @@ use Rattle.ecigar.specs.Check.{checkOf}
 use Rattle.ecigar.specs.declared.check.Checked.{Checked as EditsChecked}
 use Rattle.ecigar.specs.declared.check.Checked.the-variants as edits
 use Rattle.ecigar.proofs.RefusalLaws.{EarlyEdits, check-early}
-use Rattle.bases.proofs.RefusalLaws.{under-early}
 use Rattle.segment.specs.Checked.{lengthAt, rcompAt, countAt, afterChecked}
 use Rattle.segment.specs.Symbols.{symbolsFrom}
 use Rattle.segment.specs.Clips.{clipsIn, clipsAt}
-use Rattle.segment.specs.Place.{placeRefusal}
 use Rattle.segment.specs.Aligned.{afterEdits, tallied, fromEdits, fromSoft, afterClips, fromClips, fromRcomp, alignedAt}
 use Rattle.segment.specs.Unaligned.{fromLength, unalignedAt}
-use Rattle.segment.specs.Part.{unlessRefused, underMatches, placed, afterBlock, placedAt, afterPlain, plainAt}
 use Rattle.segment.specs.declared.checked.Checked.{Checked}
 use Rattle.segment.specs.declared.checked.Checked.the-variants as checked
 use Rattle.segment.specs.declared.clips.Clipped.{Clipped}
@@ -36,8 +31,6 @@ use Rattle.segment.specs.declared.aligned.AlignedBlock.{AlignedBlock}
 use Rattle.segment.specs.declared.aligned.AlignedBlock.the-variants as aligned
 use Rattle.segment.specs.declared.unaligned.UnalignedBlock.{UnalignedBlock}
 use Rattle.segment.specs.declared.unaligned.UnalignedBlock.the-variants as unaligned
-use Rattle.segment.specs.declared.part.PartRead.{PartRead}
-use Rattle.segment.specs.declared.part.PartRead.the-variants as part
 
 -- ---- what is said of each answer
 
@@ -49,17 +42,13 @@ abbrev EarlyClips : Clipped → Type 0
 EarlyClips (clips.Whole c next) = Unit
 EarlyClips (clips.Refused n) = Early n
 
-abbrev EarlyBlock : AlignedBlock → Type 0
+abbrev pub EarlyBlock : AlignedBlock → Type 0
 EarlyBlock (aligned.Whole a) = Unit
 EarlyBlock (aligned.Refused n) = Early n
 
-abbrev EarlyPlain : UnalignedBlock → Type 0
+abbrev pub EarlyPlain : UnalignedBlock → Type 0
 EarlyPlain (unaligned.Whole s) = Unit
 EarlyPlain (unaligned.Refused n) = Early n
-
-abbrev pub EarlyPart : PartRead → Type 0
-EarlyPart (part.Whole p next) = Unit
-EarlyPart (part.Refused n) = Early n
 
 -- ---- a checked field keeps to it where each way it can go does
 
@@ -132,48 +121,16 @@ from-clips-early class alphabet frame length rcomp at =
     by (clips.Whole c next) h = soft-early class alphabet frame length rcomp c (next .at)
     by (clips.Refused n) h = h
 
-aligned-early : (class alphabet : ℕ) (frame : List ℕ) (at : ℕ) → EarlyBlock (alignedAt class alphabet frame at)
+pub aligned-early : (class alphabet : ℕ) (frame : List ℕ) (at : ℕ) → EarlyBlock (alignedAt class alphabet frame at)
 unfolding alignedAt fromRcomp
 aligned-early class alphabet frame at =
     by-checked EarlyBlock _ (lengthAt frame at) _ (λ n h. h) (length-early frame at)
     (λ length next. by-checked EarlyBlock _ (rcompAt frame (next .at)) _ (λ n h. h) (rcomp-early frame (next .at))
     (λ rcomp last. from-clips-early class alphabet frame length rcomp (last .at)))
 
-unaligned-early : (alphabet : ℕ) (frame : List ℕ) (at : ℕ) → EarlyPlain (unalignedAt alphabet frame at)
+pub unaligned-early : (alphabet : ℕ) (frame : List ℕ) (at : ℕ) → EarlyPlain (unalignedAt alphabet frame at)
 unfolding unalignedAt fromLength
 unaligned-early alphabet frame at =
     by-checked EarlyPlain _ (lengthAt frame at) _ (λ n h. h) (length-early frame at)
     (λ length next. by-checked EarlyPlain _ (symbolsFrom alphabet frame length length (next .at)) _ (λ n h. h) (symbols-early alphabet frame length length (next .at))
     (λ count last. tt))
-
--- ---- a segment's place
-
-place-early : (start end position taken : ℕ) → FineOrEarly (placeRefusal start end position taken)
-unfolding placeRefusal
-place-early start end position taken =
-    one-of FineOrEarly (ltb position start) _ _ (lit< tt)
-    (one-of FineOrEarly (ltb end position) _ _ (lit< tt)
-    (one-of FineOrEarly (ltb (end + 1) (position + taken)) _ _ (lit< tt) (lit< tt)))
-
--- ---- a segment
-
-unless-early : (number : ℕ) (go : PartRead) → FineOrEarly number → EarlyPart go → EarlyPart (unlessRefused number go)
-unless-early number go h k = by-number EarlyPart number _ _ h k (λ e. e)
-
-pub placed-early : (u : UnitOf) (reference frame : List ℕ) (position at : ℕ) → EarlyPart (placedAt u reference frame position at)
-unfolding placedAt placed
-placed-early u reference frame position at = by (alignedAt (u .class) (u .alphabet) frame at) (aligned-early (u .class) (u .alphabet) frame at)
-  where
-    by : (x : AlignedBlock) → EarlyBlock x → EarlyPart (afterBlock u reference frame position x)
-    by (aligned.Whole a) h =
-        unless-early (placeRefusal (u .start) (u .end) position (a .taken)) _ (place-early (u .start) (u .end) position (a .taken))
-        (unless-early (underMatches u reference frame position (a .segment)) _ (under-early (u .alphabet) reference (u .first) _ _ _) tt)
-    by (aligned.Refused n) h = h
-
-pub plain-early : (u : UnitOf) (frame : List ℕ) (at : ℕ) → EarlyPart (plainAt u frame at)
-unfolding plainAt
-plain-early u frame at = by (unalignedAt (u .alphabet) frame at) (unaligned-early (u .alphabet) frame at)
-  where
-    by : (x : UnalignedBlock) → EarlyPlain x → EarlyPart (afterPlain x)
-    by (unaligned.Whole s) h = tt
-    by (unaligned.Refused n) h = h

@@ -29,7 +29,7 @@ pub enum AlignedBlock {
 }
 
 // The fields of an aligned block, left to right.
-pub(crate) fn read_block(line: &[u8], class: u32, alphabet: u32, c: Cursor) -> AlignedBlock
+pub fn read_block(line: &[u8], class: u32, alphabet: u32, c: Cursor) -> AlignedBlock
     ensures { λ r. ⌜ r ≡ alignedAt class alphabet (unhex (now (line .entry))) (c .at) ⌝ }
 {
     match read_length(line, c) {

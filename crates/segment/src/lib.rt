@@ -2,8 +2,5 @@
 pub mod aligned;
 pub mod checked;
 pub mod clips;
-pub mod part;
-pub mod place;
 pub mod symbols;
 pub mod unaligned;
-pub mod write;

@@ -1,2 +1,1 @@
 pub mod Source
-pub mod Sink

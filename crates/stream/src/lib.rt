@@ -1,4 +1,2 @@
-// What the programs read and write: their arguments, files read through lent buffers, and lines gathered for standard output.
-pub mod args;
-pub mod sink;
+// Files read through lent buffers, in pieces.
 pub mod source;

@@ -1,3 +1,2 @@
-// The listing of a unit, made while its files are read: the front of the files, then one call a line.
-pub mod front;
+// The lines behind a listing's first, made while the unit file is read: one call a line.
 pub mod rest;

@@ -1,20 +1,17 @@
-// The lines of a listing, gathered as they are made: the first by the front of the files, the others by one call a line of the unit file.
-use crate::front::Front;
-use crate::front::Opened;
+// The lines of a listing behind its first, gathered as they are made: one call a line of the unit file.
 use decoder::Added;
 use decoder::turn;
 use listing::close;
-use preface::unit_line;
-use stream::sink::Sink;
-use stream::sink::with_refused;
+use opening::front::Front;
+use opening::front::Opened;
+use program::sink::Sink;
+use program::sink::with_refused;
 use stream::source::Source;
 use stream::source::pass_lines;
 use stream::source::take;
 use unit::State;
 use unit::Unit;
 use writing::lay::Wrote;
-ghost use mathlib.Core.Path.{_≡_};
-ghost use Rattle.supply.specs.Rest.{firstWrote, firstInto};
 
 // How far a listing has come.
 pub struct Run {
@@ -30,26 +27,6 @@ struct Listed {
     state: State,
     sink: Sink,
     over: bool,
-}
-
-// The listing's first line, at the front of what is lent.
-pub fn write_first(out: &mut [u8], front: Front) -> Wrote
-    ensures { λ r. ⌜ r ≡ firstWrote (now (out .entry)) front ⌝ }
-    ensures { λ _. ⌜ now (out .exit) ≡ firstInto (now (out .entry)) front ⌝ }
-{
-    match front {
-        Front::Alone(n) => close::write_refused(out, 0, n),
-        Front::Unpaired(unit, _) => unit_line::write(out, unit),
-        Front::Ready(unit) => unit_line::write(out, unit),
-        Front::Unread => Wrote::NoRoom,
-    }
-}
-
-pub fn with_first(k: Sink, out: &mut [u8], front: Front) -> Sink {
-    let roomy = k.roomy(out);
-    let used = roomy.used;
-    let wrote = write_first(&mut out[used..], front);
-    roomy.with(wrote, out)
 }
 
 fn stopped(state: State, source: Source, sink: Sink) -> Run {

@@ -8,8 +8,8 @@ use lib.ListN.{length, length-append}
 use Rattle.frame.specs.Hex.{unhex}
 use Rattle.writing.proofs.LayLaws.{laid-then, laid-rest, length-laid, room-next}
 use Rattle.unit.specs.Listed.{headOf}
-use Rattle.segment.specs.Part.{partBytes}
-use Rattle.segment.specs.declared.part.Part.{Part}
+use Rattle.part.specs.Part.{partBytes}
+use Rattle.part.specs.declared.Part.{Part}
 use Rattle.record.specs.Record.{linkBytes, listedBytes}
 use borrow.Author.Needs.{needs}
 use Rattle.record.proofs.write.write.Statement.{statement}

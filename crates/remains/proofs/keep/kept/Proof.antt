@@ -1,4 +1,4 @@
--- `listing::keep::kept` meets its contract: what is known at the end of a file is what is kept, `keep-known`. Assumes nothing.
+-- `remains::keep::kept` meets its contract: what is known at the end of a file is what is kept, `keep-known`. Assumes nothing.
 use native.Mathlib.Omega.{arith}
 use mathlib.Core.Path.{ap, _∙_}
 use denote.Ref.{now}

@@ -1,4 +1,4 @@
--- `listing::keep::run_end` meets its contract. The loop's invariant: the run ends at the same place, counted from here. Assumes nothing.
+-- `remains::keep::run_end` meets its contract. The loop's invariant: the run ends at the same place, counted from here. Assumes nothing.
 use Prim.Native.Nat.{_+_, _-_, _≤_}
 use native.Mathlib.Omega.{arith}
 use mathlib.Core.Path.{_≡_, refl}

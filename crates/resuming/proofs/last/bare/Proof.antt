@@ -1,4 +1,4 @@
--- `listing::last::bare` meets its contract: the state is the fresh one. Assumes nothing.
+-- `resuming::last::bare` meets its contract: the state is the fresh one. Assumes nothing.
 use borrow.Author.Needs.{needs}
 use Rattle.resuming.proofs.last.bare.Statement.{statement}
 use Rattle.resuming.proofs.last.bare.Tie as tie

@@ -1,4 +1,4 @@
--- `listing::last::frame_last` meets its contract: the tests on the way pick the case. Assumes nothing.
+-- `resuming::last::frame_last` meets its contract: the tests on the way pick the case. Assumes nothing.
 use mathlib.Core.Path.{ap, _∙_}
 use denote.Ref.{now}
 use Rattle.frame.specs.Hex.{unhex}

@@ -1,4 +1,4 @@
--- `listing::last::last_line` meets its contract: a malformed line says nothing, and any other what its frame says. Assumes nothing.
+-- `resuming::last::last_line` meets its contract: a malformed line says nothing, and any other what its frame says. Assumes nothing.
 use mathlib.Core.Path.{sym, ap, _∙_}
 use denote.Ref.{now}
 use Rattle.frame.proofs.LineLaws.{frame-is-line}

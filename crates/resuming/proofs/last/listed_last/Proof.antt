@@ -1,4 +1,4 @@
--- `listing::last::listed_last` meets its contract: the tests on the way pick the case. Assumes nothing.
+-- `resuming::last::listed_last` meets its contract: the tests on the way pick the case. Assumes nothing.
 use native.Mathlib.Omega.{arith}
 use mathlib.Core.Path.{sym, ap, _∙_}
 use denote.Ref.{now}

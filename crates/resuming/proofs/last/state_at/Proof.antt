@@ -1,4 +1,4 @@
--- `listing::last::state_at` meets its contract. The loop's invariant: the indexes that are read, and those that are left to read, are those of the frame. Assumes nothing.
+-- `resuming::last::state_at` meets its contract. The loop's invariant: the indexes that are read, and those that are left to read, are those of the frame. Assumes nothing.
 use Prim.Native.Nat.{_-_}
 use native.Mathlib.Omega.{arith}
 use mathlib.Core.Path.{_≡_, refl}

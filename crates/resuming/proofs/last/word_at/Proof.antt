@@ -1,4 +1,4 @@
--- `listing::last::word_at` meets its contract: two bytes, the high one first. Assumes nothing.
+-- `resuming::last::word_at` meets its contract: two bytes, the high one first. Assumes nothing.
 use mathlib.Core.Path.{_∙_}
 use Rattle.listing.proofs.LastLaws.{word-is}
 use borrow.Author.Needs.{needs}

@@ -1,4 +1,4 @@
--- `listing::pass::pass` meets its contract. The loop's invariant, `Turn`: what is left, from here, comes to the answer of the whole piece. Assumes nothing.
+-- `resuming::pass::pass` meets its contract. The loop's invariant, `Turn`: what is left, from here, comes to the answer of the whole piece. Assumes nothing.
 use Prim.Native.Nat.{_-_}
 use native.Mathlib.Omega.{arith}
 use mathlib.Core.Path.{sym}

@@ -1,4 +1,4 @@
--- `listing::place::bare` meets its contract: the state is the fresh one. Assumes nothing.
+-- `resuming::place::bare` meets its contract: the state is the fresh one. Assumes nothing.
 use borrow.Author.Needs.{needs}
 use Rattle.resuming.proofs.place.bare.Statement.{statement}
 use Rattle.resuming.proofs.place.bare.Tie as tie

@@ -1,4 +1,4 @@
--- `listing::place::behind` meets its contract: what the last line says picks the place. Assumes nothing.
+-- `resuming::place::behind` meets its contract: what the last line says picks the place. Assumes nothing.
 use mathlib.Core.Path.{_∙_}
 use Rattle.resuming.proofs.ToldLaws.{told-on, told-whole, told-bad}
 use borrow.Author.Needs.{needs}

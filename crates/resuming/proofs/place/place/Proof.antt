@@ -1,4 +1,4 @@
--- `listing::place::place` meets its contract: the tests on the way pick the case. Assumes nothing.
+-- `resuming::place::place` meets its contract: the tests on the way pick the case. Assumes nothing.
 use mathlib.Core.Path.{sym, _∙_}
 use borrow.Author.Tests.{not-true, not-false}
 use Rattle.listing.specs.Resuming.{edgesFrom}

@@ -1,4 +1,4 @@
--- `listing::place::same` meets its contract. The loop's invariant: to compare what is left gives what comparing the whole gives. Assumes nothing.
+-- `resuming::place::same` meets its contract. The loop's invariant: to compare what is left gives what comparing the whole gives. Assumes nothing.
 use Prim.Native.Nat.{_-_, _≤_}
 use native.Mathlib.Omega.{arith}
 use mathlib.Core.Path.{_≡_, refl, sym, _∙_}

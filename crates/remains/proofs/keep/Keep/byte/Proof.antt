@@ -1,4 +1,4 @@
--- `listing::keep::Keep::byte` meets its contract: the tests on the way pick the case. Assumes nothing.
+-- `remains::keep::Keep::byte` meets its contract: the tests on the way pick the case. Assumes nothing.
 use Rattle.remains.specs.Keep.{keepByte}
 use borrow.Author.Tests.{eq-eqb, le-leb, lt-leb, ne-eqb}
 use borrow.Author.Needs.{needs}

@@ -1,4 +1,4 @@
--- `listing::keep::Keep::line_kept` meets its contract: the first kept line is noted once. Assumes nothing.
+-- `remains::keep::Keep::line_kept` meets its contract: the first kept line is noted once. Assumes nothing.
 use borrow.Author.Tests.{eq-eqb, ne-eqb}
 use borrow.Author.Needs.{needs}
 use Rattle.remains.proofs.keep.Keep.line_kept.Statement.{statement}

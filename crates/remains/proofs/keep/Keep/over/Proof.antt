@@ -1,4 +1,4 @@
--- `listing::keep::Keep::over` meets its contract. The loop's invariant: to read what is left, from here, gives what reading the whole piece gives. Assumes nothing.
+-- `remains::keep::Keep::over` meets its contract. The loop's invariant: to read what is left, from here, gives what reading the whole piece gives. Assumes nothing.
 use Prim.Native.Nat.{_-_, _≤_, _<_}
 use native.Mathlib.Omega.{arith}
 use mathlib.Core.Path.{_≡_, refl, sym, ap, _∙_}

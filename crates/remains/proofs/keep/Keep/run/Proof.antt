@@ -1,4 +1,4 @@
--- `listing::keep::Keep::run` meets its contract: what can be counted is, and the rest is not. Assumes nothing.
+-- `remains::keep::Keep::run` meets its contract: what can be counted is, and the rest is not. Assumes nothing.
 use mathlib.Core.Path.{_∙_, ap}
 use Rattle.remains.specs.Keep.{stopped}
 use Rattle.remains.specs.Run.{keepRun}

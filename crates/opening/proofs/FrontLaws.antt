@@ -1,0 +1,15 @@
+-- The laws of the front of the files: every reference line that is read adds a base.
+-- Assumes nothing.
+use Prim.Native.Nat.{ℕ}
+use native.Mathlib.Omega.{arith}
+use mathlib.Core.Path.{_≡_, sym}
+use mathlib.Core.List.{List}
+use Rattle.preface.specs.ReferenceLine.{referenceLine}
+use Rattle.preface.specs.declared.reference_line.ReferenceLine.the-variants.{Bases}
+use Rattle.preface.proofs.ReferenceLaws.{reference-accepted}
+use Rattle.opening.specs.Front.{Grown}
+
+pub reference-grows : (line : List ℕ) (used places n : ℕ) → referenceLine line used places ≡ Bases n → Grown used n
+reference-grows line used places n e =
+    let w = reference-accepted line used places n (sym e) .added in
+    record { more = omega (arith, w .some, w .count); most = w .most }

@@ -1,0 +1,3 @@
+// The front of the two files, and the listing's first line, which it decides.
+pub mod first;
+pub mod front;

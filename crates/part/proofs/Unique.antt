@@ -1,0 +1,19 @@
+-- Each public promise admits one outcome: two answers that meet it are the same. `write` promises `Laid`: `laid-once` of writing.
+-- Assumes nothing.
+use mathlib.Core.Path.{_≡_}
+use mathlib.Core.List.{List}
+use Prim.Native.Nat.{ℕ}
+use Rattle.frame.proofs.Unique.{once}
+use Rattle.unit.specs.declared.Unit.{Unit}
+use Rattle.part.specs.Part.{placedAt, plainAt, partLength}
+use Rattle.part.specs.declared.Part.{Part}
+use Rattle.part.specs.declared.PartRead.{PartRead}
+
+pub read-aligned-once : (u : Unit) (reference frame : List ℕ) (position at : ℕ) {x y : PartRead} → x ≡ placedAt u reference frame position at → y ≡ placedAt u reference frame position at → x ≡ y
+read-aligned-once u reference frame position at p q = once p q
+
+pub read-unaligned-once : (u : Unit) (frame : List ℕ) (at : ℕ) {x y : PartRead} → x ≡ plainAt u frame at → y ≡ plainAt u frame at → x ≡ y
+read-unaligned-once u frame at p q = once p q
+
+pub bytes-once : (p : Part) {x y : ℕ} → x ≡ partLength p → y ≡ partLength p → x ≡ y
+bytes-once p e f = once e f

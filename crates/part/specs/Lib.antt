@@ -1,0 +1,4 @@
+pub mod Part
+pub mod Place
+pub mod Ready
+pub mod Listed
