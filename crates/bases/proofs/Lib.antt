@@ -4,3 +4,4 @@ pub mod AlignmentLaws
 pub mod ReadLaws
 pub mod RefusalLaws
 pub mod BytesLaws
+pub mod Unique

@@ -7,3 +7,4 @@ pub mod Table92Laws
 pub mod OperationLaws
 pub mod RefusalLaws
 pub mod BytesLaws
+pub mod Unique

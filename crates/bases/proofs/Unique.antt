@@ -1,0 +1,11 @@
+-- Each public promise admits one outcome: two answers that meet it are the same. The writers promise `Laid`: `laid-once` of writing.
+-- Assumes nothing.
+use mathlib.Core.Path.{_≡_}
+use mathlib.Core.List.{List}
+use Prim.Native.Nat.{ℕ}
+use Rattle.frame.proofs.Unique.{once}
+use Rattle.bases.specs.Bases.{referenceRefusal}
+
+pub check-reference-once : (class alphabet : ℕ) (frame reference : List ℕ) (first position mapped count place : ℕ) {x y : ℕ}
+    → x ≡ referenceRefusal class alphabet frame reference first position mapped count place → y ≡ referenceRefusal class alphabet frame reference first position mapped count place → x ≡ y
+check-reference-once class alphabet frame reference first position mapped count place p q = once p q
