@@ -6,9 +6,10 @@ use mathlib.Core.Bool.{cond}
 use mathlib.Core.List.{List}
 use lib.Dec.{ltb, eqb}
 use lib.ListN.{length}
-use Rattle.refusal.specs.Numbers.{fine, malformed, misframed, positionOut}
+use Rattle.refusal.specs.Numbers.{fine, misframed, positionOut}
 use Rattle.frame.specs.Hex.{unhex}
-use Rattle.frame.specs.Line.{lineOf}
+use Rattle.frame.specs.Line.{lineOf, lineNumber}
+use Rattle.frame.specs.declared.line.Line.the-variants.{Malformed}
 use Rattle.frame.specs.Field.{fieldNumber, withField}
 use Rattle.frame.specs.declared.field.Field.the-variants as field
 use Rattle.unit.specs.Kinds.{kindRecord}
@@ -112,7 +113,7 @@ fromKind u reference symbols counts state frame =
 -- a line is lent with its 0A
 unfoldable pub planOf : Unit → (reference symbols counts : List ℕ) → State → (line : List ℕ) → Reading
 planOf u reference symbols counts state line =
-    afterLine (refusedReading malformed state) (lineOf line) (fromKind u reference symbols counts state (unhex line))
+    afterLine (refusedReading (lineNumber Malformed) state) (lineOf line) (fromKind u reference symbols counts state (unhex line))
 
 -- ---- what the check leaves for the writing: `plan-ready` shows it of every line that was accepted
 

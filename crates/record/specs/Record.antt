@@ -4,7 +4,9 @@ use Prim.Native.Nat.{ℕ, suc, _+_, _*_}
 use mathlib.Core.List.{List, _∷_, _++_}
 use lib.Dec.{ltb, eqb}
 use lib.ListN.{length, drop}
-use Rattle.refusal.specs.Numbers.{fine, noRoom}
+use Rattle.refusal.specs.Numbers.{fine}
+use Rattle.writing.specs.Whole.{wroteNumber}
+use Rattle.writing.specs.declared.lay.Wrote.the-variants.{NoRoom}
 use Rattle.frame.specs.Hex.{hexOf, unhex, be}
 use Rattle.frame.specs.Line.{lineEnd}
 use Rattle.frame.specs.Steps.{unless}
@@ -61,7 +63,7 @@ stepOf u reference symbols counts state line =
 -- last 17: the line with its 0A wants one byte more than its digits
 abbrev pub withRoom : (room : ℕ) → Step → Step
 withRoom room (refused n) = refused n
-withRoom room (accepted frame next) = unless (ltb (2 * length frame) room) (refused noRoom) (accepted frame next)
+withRoom room (accepted frame next) = unless (ltb (2 * length frame) room) (refused (wroteNumber NoRoom)) (accepted frame next)
 
 -- THE RECORD CALL: unit, reference, symbols and their counts, state, line with its 0A, and how much output is lent
 unfoldable pub recordOf : Unit → (reference symbols counts : List ℕ) → State → (line : List ℕ) (room : ℕ) → Step
