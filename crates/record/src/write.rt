@@ -59,7 +59,7 @@ fn put_link(out: &mut [u8], at: usize, unit: Unit, pos: u32, link: Link) -> usiz
 }
 
 // The bytes of an 04 line; the rest of the line is lent on for the second segment.
-pub fn write(
+pub(crate) fn write(
     out: &mut [u8],
     unit: Unit,
     reference: &[u8],
