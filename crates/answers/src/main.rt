@@ -1,10 +1,10 @@
 // Prints the number by which each of a few lines is answered, 0 where it is accepted: the readers of unit, pair and reference lines as they run.
-use preface::pair_line;
-use preface::pair_line::PairLine;
-use preface::reference_line;
-use preface::reference_line::ReferenceLine;
-use preface::unit_line;
-use preface::unit_line::UnitLine;
+use front::pair_line;
+use front::pair_line::PairLine;
+use front::reference_line;
+use front::reference_line::ReferenceLine;
+use front::unit_line;
+use front::unit_line::UnitLine;
 use unit::State;
 
 fn show(number: u32) {

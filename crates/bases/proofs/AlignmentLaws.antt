@@ -13,12 +13,12 @@ use lib.Seq.{getD-append-add}
 use Rattle.refusal.specs.Numbers.{fine, symbolOut}
 use Rattle.frame.proofs.HexLaws.{by-test}
 use Rattle.alphabet.specs.Table35.{sizeOf, letterOf}
-use Rattle.block.specs.declared.edit.Edit.{Edit}
-use Rattle.block.specs.Edits.{deletion, nextOffset, Sound, takenFrom}
-use Rattle.block.proofs.EditLaws.{accepted, sound-head, sound-tail, next-deletion, next-other, next-least, next-most, symbol-inside, sound-accepted}
+use Rattle.edits.specs.declared.edit.Edit.{Edit}
+use Rattle.edits.specs.Edits.{deletion, nextOffset, Sound, takenFrom}
+use Rattle.edits.proofs.EditLaws.{accepted, sound-head, sound-tail, next-deletion, next-other, next-least, next-most, symbol-inside, sound-accepted}
 use Rattle.alphabet.proofs.AlphabetLaws.{letter-real}
 use Rattle.bases.specs.declared.places.Places.{Places}
-use Rattle.bases.specs.Reference.{isLent, lentSymbol, baseAt, baseRefusal, firstOf, matchedBases, matchRefusal}
+use Rattle.bases.specs.Reference.{isLent, lentSymbol, baseAt, baseRefusal, firstRefusal, matchedBases, matchRefusal}
 use Rattle.bases.specs.Bases.{R, r, pastEdit, editBases, basesFrom, refusalFrom, pastAll}
 use Rattle.bases.specs.Alignment.{UnderMatch, OfEdit}
 use Rattle.bases.proofs.ReferenceLaws.{length-matched}
@@ -212,10 +212,10 @@ base-real alphabet reference first position z =
     (λ u. rw t (letter-real alphabet (lentSymbol reference first position) (leb-false (sizeOf alphabet) (lentSymbol reference first position) u))))
     (λ t. rw t (omega arith))
 
-first-left : (a b : ℕ) → firstOf a b ≡ fine → a ≡ fine
+first-left : (a b : ℕ) → firstRefusal a b ≡ fine → a ≡ fine
 first-left a b z = by-test (eqb a fine) (λ t. eqb-true a fine t) (λ t. simp t at z)
 
-first-right : (a b : ℕ) → firstOf a b ≡ fine → b ≡ fine
+first-right : (a b : ℕ) → firstRefusal a b ≡ fine → b ≡ fine
 first-right a b z = by-test (eqb a fine) (λ t. simp t at z) (λ t. absurd (eqb-false a fine t (simp t at z)))
 
 -- 0 or 10, and nothing else

@@ -15,11 +15,11 @@ use Rattle.writing.specs.Lay.{Laid}
 use Rattle.frame.proofs.HexLaws.{by-test, length-unhex}
 use Rattle.writing.proofs.LayLaws.{Rest, rest-room, laid-then, laid-room, length-laid}
 use Rattle.alphabet.specs.Table35.{letterOf}
-use Rattle.block.specs.declared.edit.Edit.{Edit}
-use Rattle.block.specs.declared.Segment.{Segment}
-use Rattle.block.specs.Segment.{mappedLength}
-use Rattle.block.specs.Edits.{insertion, deletion, widthOf, editAt, editsAt, nextOffset}
-use Rattle.block.proofs.EditLaws.{edits-on, edits-none, width-most, edits-past}
+use Rattle.edits.specs.declared.edit.Edit.{Edit}
+use Rattle.edits.specs.declared.Block.{Block}
+use Rattle.edits.specs.Lengths.{mappedLength}
+use Rattle.edits.specs.Edits.{insertion, deletion, widthOf, editAt, editsAt, nextOffset}
+use Rattle.edits.proofs.EditLaws.{edits-on, edits-none, width-most, edits-past}
 use Rattle.bases.specs.declared.places.Places.{Places}
 use Rattle.bases.specs.Reference.{matchedBases, matchRefusal, least}
 use Rattle.bases.specs.Bases.{R, r, farthest, beginning, pastEdit, editBases, basesFrom, refusalFrom, lettersAt, mappedBases, referenceRefusal, basesText}
@@ -159,12 +159,12 @@ walk-near w h k = omega (arith, w .reference)
 
 -- ---- the whole read, piece by piece. Its first soft-clipped base stands at a place that is clipped to the frame
 
-pub length-text : (class alphabet : ℕ) (frame reference : List ℕ) (first position : ℕ) (s : Segment) → length (basesText class alphabet frame reference first position s)
+pub length-text : (class alphabet : ℕ) (frame reference : List ℕ) (first position : ℕ) (s : Block) → length (basesText class alphabet frame reference first position s)
     ≡ s .clips .«left_soft» + length (mappedBases class alphabet frame reference first position (mappedLength (s .length) (s .clips)) (s .edits) (s .«edits_at»)) + s .clips .«right_soft»
 unfolding basesText
 length-text class alphabet frame reference first position s = simp (length-append, length-letters)
 
-module _ (class alphabet : ℕ) (l reference : List ℕ) (first position : ℕ) (s : Segment) where
+module _ (class alphabet : ℕ) (l reference : List ℕ) (first position : ℕ) (s : Block) where
   module _ {here mapped : ℕ} (q : here ≡ least (s .«soft_at») (length l / 2)) (m : mapped ≡ mappedLength (s .length) (s .clips)) where
     pub text-pieces : (lettersAt alphabet (unhex l) here (here + s .clips .«left_soft» - here) ++ mappedBases class alphabet (unhex l) reference first position mapped (s .edits) (s .«edits_at»))
         ++ lettersAt alphabet (unhex l) (here + s .clips .«left_soft») (here + s .clips .«left_soft» + s .clips .«right_soft» - (here + s .clips .«left_soft»))

@@ -8,10 +8,10 @@ use Rattle.frame.specs.Hex.{Bytes}
 use Rattle.frame.proofs.HexLaws.{bytes-append}
 use Rattle.frame.proofs.Tests.{one-of}
 use Rattle.alphabet.proofs.AlphabetLaws.{letter-byte}
-use Rattle.block.specs.Edits.{deletion}
-use Rattle.block.specs.Segment.{mappedLength}
-use Rattle.block.specs.declared.edit.Edit.{Edit}
-use Rattle.block.specs.declared.Segment.{Segment}
+use Rattle.edits.specs.Edits.{deletion}
+use Rattle.edits.specs.Lengths.{mappedLength}
+use Rattle.edits.specs.declared.edit.Edit.{Edit}
+use Rattle.edits.specs.declared.Block.{Block}
 use Rattle.bases.specs.Reference.{isLent, baseAt, matchedBases}
 use Rattle.bases.specs.Bases.{R, r, beginning, pastEdit, editBases, basesFrom, lettersAt, mappedBases, basesText}
 use Rattle.bases.specs.declared.places.Places.{Places}
@@ -46,7 +46,7 @@ bytes-mapped alphabet reference first mapped p (e ∷ es) =
     (bytes-append (matchedBases alphabet reference first (R p) (e .offset - r p)) _ (bytes-matched alphabet reference first (R p) (e .offset - r p)) (bytes-edit alphabet e))
     (bytes-mapped alphabet reference first mapped (pastEdit e p) es)
 
-pub bytes-read : (class alphabet : ℕ) (frame reference : List ℕ) (first position : ℕ) (s : Segment) → Bytes (basesText class alphabet frame reference first position s)
+pub bytes-read : (class alphabet : ℕ) (frame reference : List ℕ) (first position : ℕ) (s : Block) → Bytes (basesText class alphabet frame reference first position s)
 unfolding basesText
 bytes-read class alphabet frame reference first position s =
     let left = lettersAt alphabet frame (s .«soft_at») (s .clips .«left_soft») in

@@ -12,10 +12,10 @@ use lib.ListN.{length, getD, length-append, List·getD-append}
 use Rattle.refusal.specs.Numbers.{fine}
 use Rattle.frame.proofs.HexLaws.{by-test}
 use Rattle.alphabet.specs.Table35.{sizeOf, letterOf}
-use Rattle.block.specs.declared.edit.Edit.{Edit}
-use Rattle.block.specs.declared.Segment.{Segment}
-use Rattle.block.specs.Edits.{editsAt, takenFrom}
-use Rattle.block.specs.Segment.{softBases, mappedLength}
+use Rattle.edits.specs.declared.edit.Edit.{Edit}
+use Rattle.edits.specs.declared.Block.{Block}
+use Rattle.edits.specs.Edits.{editsAt, takenFrom}
+use Rattle.edits.specs.Lengths.{softBases, mappedLength}
 use Rattle.bases.specs.Reference.{baseAt}
 use Rattle.bases.specs.Bases.{R, beginning, pastAll, lettersAt, mappedBases, referenceRefusal, basesText}
 use Rattle.bases.specs.Alignment.{UnderMatch, OfEdit, Acceptable}
@@ -34,7 +34,7 @@ getD-letters alphabet s at zero i h = absurd (omega arith)
 getD-letters alphabet s at (suc n) zero h = rw (add-zero at)
 getD-letters alphabet s at (suc n) (suc i) h = let e : at + suc i ≡ at + 1 + i = omega arith in rw e (getD-letters alphabet s (at + 1) n i (omega arith))
 
-module _ (class alphabet : ℕ) (frame reference : List ℕ) (first position : ℕ) (s : Segment) (a : Acceptable class alphabet frame s) where
+module _ (class alphabet : ℕ) (frame reference : List ℕ) (first position : ℕ) (s : Block) (a : Acceptable class alphabet frame s) where
   pub mapped-length : length (mappedBases class alphabet frame reference first position (mappedLength (s .length) (s .clips)) (s .edits) (s .«edits_at»)) ≡ mappedLength (s .length) (s .clips)
   mapped-length =
       length-bases alphabet reference first (mappedLength (s .length) (s .clips)) (beginning position) (editsAt class alphabet frame (s .edits) (s .«edits_at»)) (a .edits) (omega arith)

@@ -17,7 +17,7 @@ use Rattle.writing.proofs.LayLaws.{laid-as, laid-then, laid-room}
 use Rattle.alphabet.specs.Table35.{letterN, letterOf, sizeOf}
 use Rattle.alphabet.specs.Digits.{digitsOf}
 use Rattle.alphabet.proofs.AlphabetLaws.{digits-high, digits-low, letter-past}
-use Rattle.bases.specs.Reference.{isLent, baseAt, baseRefusal, firstOf, matchedBases, matchRefusal, least, lentBefore}
+use Rattle.bases.specs.Reference.{isLent, baseAt, baseRefusal, firstRefusal, matchedBases, matchRefusal, least, lentBefore}
 use Rattle.bases.specs.Bases.{lettersAt, symbolsRefusal}
 
 -- ---- the smaller of two
@@ -95,10 +95,10 @@ symbols-end alphabet s i end h = let e : end - i ≡ 0 = omega arith in rw e
 
 -- ---- the first of two refusals
 
-pub first-fine : (n : ℕ) → firstOf n fine ≡ n
+pub first-fine : (n : ℕ) → firstRefusal n fine ≡ n
 first-fine n = by-test (eqb n fine) (λ t. rw t (sym (eqb-true n fine t))) (λ t. rw t)
 
-pub first-assoc : (a b c : ℕ) → firstOf (firstOf a b) c ≡ firstOf a (firstOf b c)
+pub first-assoc : (a b c : ℕ) → firstRefusal (firstRefusal a b) c ≡ firstRefusal a (firstRefusal b c)
 first-assoc a b c = by-test (eqb a fine) (λ t. simp t) (λ t. simp t)
 
 -- ---- inside and outside
@@ -133,7 +133,7 @@ module _ (alphabet : ℕ) (reference : List ℕ) (first : ℕ) where
   matched-add position zero b = rw (zero-add b, add-zero position)
   matched-add position (suc a) b = let e : position + suc a ≡ position + 1 + a = omega arith in rw (suc-add a b, e, matched-add (position + 1) a b)
 
-  pub match-add : (position a b : ℕ) → matchRefusal alphabet reference first position (a + b) ≡ firstOf (matchRefusal alphabet reference first position a) (matchRefusal alphabet reference first (position + a) b)
+  pub match-add : (position a b : ℕ) → matchRefusal alphabet reference first position (a + b) ≡ firstRefusal (matchRefusal alphabet reference first position a) (matchRefusal alphabet reference first (position + a) b)
   unfolding matchRefusal
   match-add position zero b = rw (zero-add b, add-zero position)
   match-add position (suc a) b =

@@ -6,8 +6,8 @@ use lib.Dec.{leb, eqb, lit<}
 use Rattle.refusal.specs.Numbers.{fine, FineOrEarly}
 use Rattle.frame.proofs.Tests.{one-of}
 use Rattle.alphabet.specs.Table35.{sizeOf}
-use Rattle.block.specs.declared.edit.Edit.{Edit}
-use Rattle.bases.specs.Reference.{isLent, lentSymbol, baseRefusal, firstOf, matchRefusal}
+use Rattle.edits.specs.declared.edit.Edit.{Edit}
+use Rattle.bases.specs.Reference.{isLent, lentSymbol, baseRefusal, firstRefusal, matchRefusal}
 use Rattle.bases.specs.Bases.{R, r, pastEdit, refusalFrom}
 use Rattle.bases.specs.declared.places.Places.{Places}
 
@@ -16,7 +16,7 @@ unfolding baseRefusal
 base-early alphabet reference first position =
     one-of FineOrEarly (isLent reference first position) _ _ (one-of FineOrEarly (leb (sizeOf alphabet) (lentSymbol reference first position)) _ _ (lit< tt) (lit< tt)) (lit< tt)
 
-first-of-early : (one other : ℕ) → FineOrEarly one → FineOrEarly other → FineOrEarly (firstOf one other)
+first-of-early : (one other : ℕ) → FineOrEarly one → FineOrEarly other → FineOrEarly (firstRefusal one other)
 first-of-early one other h k = one-of FineOrEarly (eqb one fine) _ _ k h
 
 match-early : (alphabet : ℕ) (reference : List ℕ) (first position n : ℕ) → FineOrEarly (matchRefusal alphabet reference first position n)

@@ -5,10 +5,10 @@ use mathlib.Core.Path.{_≡_}
 use mathlib.Core.Logic.{_⊎_}
 use mathlib.Core.List.{List, [], _∷_}
 use Rattle.alphabet.specs.Table35.{sizeOf}
-use Rattle.block.specs.declared.edit.Edit.{Edit}
-use Rattle.block.specs.declared.Segment.{Segment}
-use Rattle.block.specs.Edits.{deletion, editsAt, Sound}
-use Rattle.block.specs.Segment.{softBases, mappedLength}
+use Rattle.edits.specs.declared.edit.Edit.{Edit}
+use Rattle.edits.specs.declared.Block.{Block}
+use Rattle.edits.specs.Edits.{deletion, editsAt, Sound}
+use Rattle.edits.specs.Lengths.{softBases, mappedLength}
 use Rattle.bases.specs.declared.places.Places.{Places}
 use Rattle.bases.specs.Bases.{R, r, pastEdit}
 
@@ -29,6 +29,6 @@ OfEdit [] i d = ⊥
 OfEdit (e ∷ es) i d = ((e ≡ d) × ((e .kind ≡ deletion → ⊥) × (e .offset ≡ i))) ⊎ OfEdit es i d
 
 -- a segment whose block was accepted: its soft clips do not reach the read length (9), and each edit is accepted where it stands (11, 10, 12)
-pub record Acceptable (class alphabet : ℕ) (frame : List ℕ) (s : Segment) : Type 0 where
+pub record Acceptable (class alphabet : ℕ) (frame : List ℕ) (s : Block) : Type 0 where
   pub clips : softBases (s .clips) < s .length
   pub edits : Sound (mappedLength (s .length) (s .clips)) (sizeOf alphabet) 0 (editsAt class alphabet frame (s .edits) (s .«edits_at»))

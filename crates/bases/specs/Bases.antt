@@ -5,12 +5,12 @@ use mathlib.Core.Bool.{cond}
 use mathlib.Core.List.{List, [], _∷_, _++_}
 use lib.Dec.{eqb}
 use lib.ListN.{getD}
-use Rattle.refusal.specs.Numbers.{firstOf}
+use Rattle.refusal.specs.Numbers.{firstRefusal}
 use Rattle.alphabet.specs.Table35.{letterOf}
-use Rattle.block.specs.declared.edit.Edit.{Edit}
-use Rattle.block.specs.declared.Segment.{Segment}
-use Rattle.block.specs.Edits.{insertion, deletion, editsAt}
-use Rattle.block.specs.Segment.{mappedLength}
+use Rattle.edits.specs.declared.edit.Edit.{Edit}
+use Rattle.edits.specs.declared.Block.{Block}
+use Rattle.edits.specs.Edits.{insertion, deletion, editsAt}
+use Rattle.edits.specs.Lengths.{mappedLength}
 use Rattle.bases.specs.declared.places.Places.{Places}
 unfoldable pub use Rattle.bases.specs.Helpers.{symbolsRefusal, farthest}
 use Rattle.bases.specs.Reference.{matchedBases, matchRefusal}
@@ -75,7 +75,7 @@ basesFrom alphabet reference first mapped p (e ∷ es) =
 unfoldable pub refusalFrom : (alphabet : ℕ) (reference : List ℕ) (first mapped : ℕ) → Places → List Edit → ℕ
 refusalFrom alphabet reference first mapped p [] = matchRefusal alphabet reference first (R p) (mapped - r p)
 refusalFrom alphabet reference first mapped p (e ∷ es) =
-    firstOf (matchRefusal alphabet reference first (R p) (e .offset - r p))
+    firstRefusal (matchRefusal alphabet reference first (R p) (e .offset - r p))
     (refusalFrom alphabet reference first mapped (pastEdit e p) es)
 
 -- both pointers behind the last base
@@ -101,7 +101,7 @@ mappedBases class alphabet frame reference first position mapped count place =
     basesFrom alphabet reference first mapped (beginning position) (editsAt class alphabet frame count place)
 
 -- the read on the forward strand (Table 43: softClips[0], the mapped bases, softClips[1]); rcomp is passed through and turns nothing
-unfoldable pub basesText : (class alphabet : ℕ) (frame reference : List ℕ) (first position : ℕ) → Segment → List ℕ
+unfoldable pub basesText : (class alphabet : ℕ) (frame reference : List ℕ) (first position : ℕ) → Block → List ℕ
 basesText class alphabet frame reference first position s =
     lettersAt alphabet frame (s .«soft_at») (s .clips .«left_soft»)
     ++ mappedBases class alphabet frame reference first position (mappedLength (s .length) (s .clips)) (s .edits) (s .«edits_at»)

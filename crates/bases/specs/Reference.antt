@@ -6,7 +6,7 @@ use mathlib.Core.List.{List, [], _∷_}
 use lib.Dec.{ltb, leb}
 use lib.ListN.{length, getD}
 use Rattle.refusal.specs.Numbers.{fine, symbolOut}
-pub use Rattle.refusal.specs.Numbers.{firstOf}
+pub use Rattle.refusal.specs.Numbers.{firstRefusal}
 use Rattle.alphabet.specs.Table35.{letterN, sizeOf, letterOf}
 unfoldable pub use Rattle.bases.specs.Helpers.{least, lentBefore}
 
@@ -40,4 +40,4 @@ matchedBases alphabet reference first position (suc n) =
 unfoldable pub matchRefusal : (alphabet : ℕ) (reference : List ℕ) (first position n : ℕ) → ℕ
 matchRefusal alphabet reference first position zero = fine
 matchRefusal alphabet reference first position (suc n) =
-    firstOf (baseRefusal alphabet reference first position) (matchRefusal alphabet reference first (position + 1) n)
+    firstRefusal (baseRefusal alphabet reference first position) (matchRefusal alphabet reference first (position + 1) n)

@@ -7,11 +7,11 @@ use crate::lent::least;
 use crate::lent::put_letter;
 use crate::lent::put_matched;
 use crate::places::Places;
-use block::Segment;
-use block::edit::Edit;
-use block::edit::edit_at;
-use block::edit::width;
-use block::mapped_length;
+use edits::Block;
+use edits::edit::Edit;
+use edits::edit::edit_at;
+use edits::edit::width;
+use edits::mapped_length;
 use frame::field::byte_at;
 ghost use mathlib.Core.Path.{_≡_};
 ghost use mathlib.Core.List.{_++_};
@@ -155,15 +155,15 @@ pub fn write(
     position: u32,
     line: &[u8],
     class: u32,
-    segment: Segment,
+    block: Block,
 ) -> usize
-    requires { ⌜ at + 2 * length (basesText class alphabet (unhex (now line)) (now reference) first position segment) ≤ length (now out) ⌝ }
-    ensures { λ a. ⌜ Laid (now (out .entry)) (now (out .exit)) at a (basesText class alphabet (unhex (now (line .entry))) (now (reference .entry)) first position segment) ⌝ }
+    requires { ⌜ at + 2 * length (basesText class alphabet (unhex (now line)) (now reference) first position block) ≤ length (now out) ⌝ }
+    ensures { λ a. ⌜ Laid (now (out .entry)) (now (out .exit)) at a (basesText class alphabet (unhex (now (line .entry))) (now (reference .entry)) first position block) ⌝ }
 {
-    let clips = segment.clips;
-    let mapped = mapped_length(segment.length, clips);
+    let clips = block.clips;
+    let mapped = mapped_length(block.length, clips);
     let bytes = line.len() / 2;
-    let left = inside(segment.soft_at, bytes);
+    let left = inside(block.soft_at, bytes);
     let right = left + clips.left_soft as usize;
     let end = right + clips.right_soft as usize;
     let first_mapped = put_letters(out, at, line, alphabet, left, right);
@@ -176,8 +176,8 @@ pub fn write(
         position,
         line,
         class,
-        segment.edits_at,
-        segment.edits,
+        block.edits_at,
+        block.edits,
         mapped,
     );
     put_letters(out, behind, line, alphabet, right, end)

@@ -1,6 +1,6 @@
 // Pointer R and pointer r of 10.6.1, and how each row of Table 90 moves them.
 use crate::lent::between;
-use block::edit::Edit;
+use edits::edit::Edit;
 ghost use mathlib.Core.Path.{_≡_};
 ghost use Prim.Native.Nat.{_+_, _-_, _^_, _<_, _≤_};
 ghost use Rattle.bases.specs.Bases.{R, r, farthest, beginning, pastMatch, pastSubstitution, pastInsertion, pastDeletion, pastEdit};

@@ -1,3 +1,5 @@
-pub mod EditLaws
+pub mod Steps
+pub mod SymbolLaws
+pub mod ReadyLaws
 pub mod Unique
 pub mod RefusalLaws

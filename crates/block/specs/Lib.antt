@@ -1,2 +1,5 @@
-pub mod Segment
-pub mod Edits
+pub mod Checked
+pub mod Clips
+pub mod Symbols
+pub mod Unaligned
+pub mod Aligned

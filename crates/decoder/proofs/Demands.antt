@@ -16,28 +16,28 @@ use Rattle.unit.specs.Kinds.{kindRefused, kindDone}
 use Rattle.unit.specs.Listed.{mostListed, numberPlace, refused, accepted}
 use Rattle.unit.specs.declared.Unit.{Unit}
 use Rattle.unit.specs.declared.State.{State}
-use Rattle.preface.specs.PairLine.{pairLine, tableAfter}
-use Rattle.preface.specs.ReferenceLine.{referenceLine, referenceAfter}
-use Rattle.preface.specs.declared.pair_line.PairLine.the-variants as pair
-use Rattle.preface.specs.declared.reference_line.ReferenceLine.the-variants as reference
-use Rattle.preface.proofs.PairLaws.{table-kept}
-use Rattle.preface.proofs.ReferenceLaws.{reference-kept}
+use Rattle.front.specs.PairLine.{pairLine, tableAfter}
+use Rattle.front.specs.ReferenceLine.{referenceLine, referenceAfter}
+use Rattle.front.specs.declared.pair_line.PairLine.the-variants as pair
+use Rattle.front.specs.declared.reference_line.ReferenceLine.the-variants as reference
+use Rattle.front.proofs.PairLaws.{table-kept}
+use Rattle.front.proofs.ReferenceLaws.{reference-kept}
 use Rattle.record.specs.Record.{stepOf, recordOf, recorded, output, listedBytes}
 use Rattle.record.specs.declared.Answer.the-variants.{Refused}
 use Rattle.record.proofs.RecordLaws.{StepTaken, step-taken, said-listed, said-taken, said-first, said-second, said-aligned}
 use Rattle.listing.specs.Lines.{linesOf, joined, kept, linesWithin}
 use Rattle.alphabet.specs.Table35.{letterN, letterOf}
 use Rattle.pairing.specs.Table60.{mateSeqId, mappingPos}
-use Rattle.block.specs.declared.edit.Edit.{Edit}
-use Rattle.ecigar.specs.Table90.{printed as written, movesRead, movesReference, total, AllPositive}
+use Rattle.edits.specs.declared.edit.Edit.{Edit}
+use Rattle.ecigar.specs.Table90.{printAll as written, movesRead, movesReference, total, AllPositive}
 use Rattle.bases.specs.Bases.{lettersAt}
 use Rattle.bases.proofs.ReadLaws.{getD-letters}
-use Rattle.part.specs.Part.{partBytes, alignedBytes, unalignedBytes}
-use Rattle.part.specs.Listed.{listedBases, listedEcigar, listedOperations, mappedIn, table92, Matches, Brought, Letter}
-use Rattle.part.specs.declared.Placed.{Placed}
-use Rattle.segment.specs.declared.unaligned.Unaligned.{Unaligned as UnalignedOf}
-use Rattle.part.specs.declared.Part.the-variants.{Aligned, Unaligned, Absent}
-use Rattle.part.proofs.StandardLaws.{Accepted, listed-is-table92, listed-operations, listed-counts, listed-reads, listed-end, listed-length, listed-from, listed-place, listed-lent, listed-missing, listed-edit, listed-left, listed-right, listed-letter}
+use Rattle.segment.specs.Segment.{segmentBytes, alignedBytes, unalignedBytes}
+use Rattle.segment.specs.Listed.{listedBases, listedEcigar, listedOperations, mappedIn, table92, Matches, Brought, Letter}
+use Rattle.segment.specs.declared.Placed.{Placed}
+use Rattle.block.specs.declared.unaligned.UnalignedBlock.{UnalignedBlock}
+use Rattle.segment.specs.declared.Segment.the-variants.{Aligned, Unaligned, Absent}
+use Rattle.segment.proofs.StandardLaws.{SegmentAccepted, listed-is-table92, listed-operations, listed-counts, listed-reads, listed-end, listed-length, listed-from, listed-place, listed-lent, listed-missing, listed-edit, listed-left, listed-right, listed-letter}
 use Rattle.plan.specs.Plan.{planOf}
 use Rattle.plan.specs.Said.{Blocks, AlignedIn}
 use Rattle.plan.specs.declared.read.Plan.{Plan}
@@ -45,14 +45,14 @@ use Rattle.plan.specs.declared.read.Planned.the-variants.{Whole}
 use Rattle.plan.proofs.PlanLaws.{first-is-aligned, first-is-plain, second-is-aligned, second-is-plain, second-is-absent}
 use Rattle.listing.specs.Files.{good, wrong}
 use Rattle.listing.specs.Listing.{line05, line06, Each, ListingLine, Numbered}
-use Rattle.listing.specs.Resuming.{bytes05, bytes06, stateAt, lastFrom, nothing, edges, edgesFrom, countOf, countsOf, place, ListedLine, ClosingLine, Closes, Continues, placeBy, add, refuse, skip, onSkip, edgesIn, printed, noRecord, torn}
+use Rattle.listing.specs.Resuming.{bytes05, bytes06, stateAt, lastFrom, nothing, edges, edgesFrom, countOf, countsOf, place, ContinuableLine, ClosingLine, Closes, Continues, placeBy, add, refuse, skip, onSkip, edgesIn, printed, noRecord, torn}
 use Rattle.listing.specs.Turn.{Turn}
-use Rattle.remains.specs.Keep.{mostBytes, fresh, keepAll, edgesAt, Known}
-use Rattle.remains.specs.declared.keep.Keep.{Keep}
+use Rattle.kept.specs.Keep.{mostBytes, fresh, keepAll, edgesAt, Known}
+use Rattle.kept.specs.declared.keep.Keep.{Keep}
 use Rattle.resuming.specs.Pass.{passed, linesIn, passOver}
 use Rattle.listing.proofs.Demand2 as two
 use Rattle.listing.proofs.Demand3 as three
-use Rattle.remains.proofs.Demand3 as found
+use Rattle.kept.proofs.Demand3 as found
 use Rattle.resuming.proofs.Demand3 as behind
 use Rattle.decoder.specs.Files.{readReference, readUnit, readPair, countsIn, emptyTable, tableOf, basesInto, readsInto}
 use Rattle.decoder.specs.Decoder.{frontOf, listingOf, firstListed, restListed, linesListed, suppliedBy, suppliedOf, resumedOf, resumedAgainOf, Opened, setupIn}
@@ -128,11 +128,11 @@ module _ (u : Unit) (reference symbols counts : List ℕ) (state : State) (line 
   second-read-is-aligned = second-is-aligned u reference (unhex line) 5 p blocks
 
   -- the first read of class U is not
-  pub first-read-of-u-is-unaligned : u .class ≡ classU → (s : UnalignedOf) × (p .first ≡ Unaligned s)
+  pub first-read-of-u-is-unaligned : u .class ≡ classU → (s : UnalignedBlock) × (p .first ≡ Unaligned s)
   first-read-of-u-is-unaligned = first-is-plain u reference (unhex line) 5 p blocks
 
   -- nor is a second read of U or of HM, the half-mapped pairs
-  pub second-read-of-hm-is-unaligned : mostSegments ≤ p .link .segments → classHM ≤ u .class → (s : UnalignedOf) × (p .second ≡ Unaligned s)
+  pub second-read-of-hm-is-unaligned : mostSegments ≤ p .link .segments → classHM ≤ u .class → (s : UnalignedBlock) × (p .second ≡ Unaligned s)
   second-read-of-hm-is-unaligned = second-is-plain u reference (unhex line) 5 p blocks
 
   -- a record of one read lists no second
@@ -140,12 +140,12 @@ module _ (u : Unit) (reference symbols counts : List ℕ) (state : State) (line 
   one-read-stands-alone = second-is-absent u reference (unhex line) 5 p blocks
 
   -- an unaligned read is listed at position 0, with strand 0 and no E-CIGAR: its length and its bases
-  pub unaligned-read-is-listed : (s : UnalignedOf) → partBytes u reference (unhex line) (Unaligned s) ≡ be 4 0 ++ be 1 0 ++ be 2 (s .length) ++ lettersAt (u .alphabet) (unhex line) (s .at) (s .length) ++ be 2 0
-  unfolding partBytes unalignedBytes
+  pub unaligned-read-is-listed : (s : UnalignedBlock) → segmentBytes u reference (unhex line) (Unaligned s) ≡ be 4 0 ++ be 1 0 ++ be 2 (s .length) ++ lettersAt (u .alphabet) (unhex line) (s .at) (s .length) ++ be 2 0
+  unfolding segmentBytes unalignedBytes
   unaligned-read-is-listed s = refl
 
   -- its bases are the block's
-  pub unaligned-base-is-the-block : (s : UnalignedOf) (i : ℕ) → i < s .length → getD (lettersAt (u .alphabet) (unhex line) (s .at) (s .length)) i 0 ≡ letterOf (u .alphabet) (getD (unhex line) (s .at + i) 0)
+  pub unaligned-base-is-the-block : (s : UnalignedBlock) (i : ℕ) → i < s .length → getD (lettersAt (u .alphabet) (unhex line) (s .at) (s .length)) i 0 ≡ letterOf (u .alphabet) (getD (unhex line) (s .at + i) 0)
   unaligned-base-is-the-block s i = getD-letters (u .alphabet) (unhex line) (s .at) (s .length) i
 
   -- the first aligned read maps to the position that the record gives
@@ -158,13 +158,13 @@ module _ (u : Unit) (reference symbols counts : List ℕ) (state : State) (line 
 
   -- of its first and its second aligned read alike
   module _ (q : Placed) (listed : AlignedIn p q) where
-    accepted-read : Accepted u reference (unhex line) q
+    accepted-read : SegmentAccepted u reference (unhex line) q
     accepted-read = said-aligned u reference symbols counts state line frame next call p said q listed
 
     -- what is listed of a read: where it maps, its strand, its length, its bases, and its E-CIGAR
-    pub read-is-listed : partBytes u reference (unhex line) (Aligned q)
-        ≡ be 4 (q .position) ++ be 1 (q .segment .rcomp) ++ be 2 (q .segment .length) ++ listedBases u reference (unhex line) q ++ be 2 (length (listedEcigar u (unhex line) q)) ++ listedEcigar u (unhex line) q
-    unfolding partBytes alignedBytes
+    pub read-is-listed : segmentBytes u reference (unhex line) (Aligned q)
+        ≡ be 4 (q .position) ++ be 1 (q .block .rcomp) ++ be 2 (q .block .length) ++ listedBases u reference (unhex line) q ++ be 2 (length (listedEcigar u (unhex line) q)) ++ listedEcigar u (unhex line) q
+    unfolding segmentBytes alignedBytes
     read-is-listed = refl
 
     -- its E-CIGAR is the string that Table 92 makes of the mismatches and clips in its block
@@ -180,7 +180,7 @@ module _ (u : Unit) (reference symbols counts : List ℕ) (state : State) (line 
     ecigar-counts-are-positive = listed-counts u reference (unhex line) q accepted-read
 
     -- together they use up every base of the read
-    pub ecigar-uses-up-the-read : total movesRead (listedOperations u (unhex line) q) ≡ q .segment .length
+    pub ecigar-uses-up-the-read : total movesRead (listedOperations u (unhex line) q) ≡ q .block .length
     ecigar-uses-up-the-read = listed-reads u reference (unhex line) q accepted-read
 
     -- the read maps to a position of its unit
@@ -192,7 +192,7 @@ module _ (u : Unit) (reference symbols counts : List ℕ) (state : State) (line 
     read-ends-in-its-unit = listed-end u reference (unhex line) q accepted-read
 
     -- as many bases are listed as the read is long
-    pub read-has-its-length : length (listedBases u reference (unhex line) q) ≡ q .segment .length
+    pub read-has-its-length : length (listedBases u reference (unhex line) q) ≡ q .block .length
     read-has-its-length = listed-length u reference (unhex line) q accepted-read
 
     -- every base that is mapped matches the reference at one position, or is substituted or inserted by an edit
@@ -205,30 +205,30 @@ module _ (u : Unit) (reference symbols counts : List ℕ) (state : State) (line 
 
     -- a base that matches is the reference's base at its position
     pub matching-base-is-the-reference : (i at : ℕ) → Matches u (unhex line) q i at → u .first ≤ at → at < u .first + length reference
-        → getD (listedBases u reference (unhex line) q) (q .segment .clips .«left_soft» + i) 0 ≡ letterOf (u .alphabet) (getD reference (at - u .first) 0)
+        → getD (listedBases u reference (unhex line) q) (q .block .clips .«left_soft» + i) 0 ≡ letterOf (u .alphabet) (getD reference (at - u .first) 0)
     matching-base-is-the-reference = listed-lent u reference (unhex line) q accepted-read
 
     -- and N where no base of the reference is lent for its position (10.2.2: padded with N)
     pub base-beyond-the-reference-is-n : (i at : ℕ) → Matches u (unhex line) q i at → (u .first ≤ at → at < u .first + length reference → ⊥)
-        → getD (listedBases u reference (unhex line) q) (q .segment .clips .«left_soft» + i) 0 ≡ letterN
+        → getD (listedBases u reference (unhex line) q) (q .block .clips .«left_soft» + i) 0 ≡ letterN
     base-beyond-the-reference-is-n = listed-missing u reference (unhex line) q accepted-read
 
     -- a base that is substituted or inserted is the letter that the block gives for it
     pub edited-base-is-the-edit : (i : ℕ) (e : Edit) → Brought u (unhex line) q i e
-        → getD (listedBases u reference (unhex line) q) (q .segment .clips .«left_soft» + i) 0 ≡ letterOf (u .alphabet) (e .symbol)
+        → getD (listedBases u reference (unhex line) q) (q .block .clips .«left_soft» + i) 0 ≡ letterOf (u .alphabet) (e .symbol)
     edited-base-is-the-edit = listed-edit u reference (unhex line) q accepted-read
 
     -- the bases that are soft-clipped on the left are the block's
-    pub left-clip-is-the-block : (i : ℕ) → i < q .segment .clips .«left_soft» → getD (listedBases u reference (unhex line) q) i 0 ≡ letterOf (u .alphabet) (getD (unhex line) (q .segment .«soft_at» + i) 0)
+    pub left-clip-is-the-block : (i : ℕ) → i < q .block .clips .«left_soft» → getD (listedBases u reference (unhex line) q) i 0 ≡ letterOf (u .alphabet) (getD (unhex line) (q .block .«soft_at» + i) 0)
     left-clip-is-the-block = listed-left u reference (unhex line) q accepted-read
 
     -- and those on the right
-    pub right-clip-is-the-block : (i : ℕ) → i < q .segment .clips .«right_soft»
-        → getD (listedBases u reference (unhex line) q) (q .segment .clips .«left_soft» + mappedIn q + i) 0 ≡ letterOf (u .alphabet) (getD (unhex line) (q .segment .«soft_at» + q .segment .clips .«left_soft» + i) 0)
+    pub right-clip-is-the-block : (i : ℕ) → i < q .block .clips .«right_soft»
+        → getD (listedBases u reference (unhex line) q) (q .block .clips .«left_soft» + mappedIn q + i) 0 ≡ letterOf (u .alphabet) (getD (unhex line) (q .block .«soft_at» + q .block .clips .«left_soft» + i) 0)
     right-clip-is-the-block = listed-right u reference (unhex line) q accepted-read
 
     -- every base is a letter of the unit's alphabet
-    pub every-base-is-a-letter : (i : ℕ) → i < q .segment .length → Letter (u .alphabet) (getD (listedBases u reference (unhex line) q) i 0)
+    pub every-base-is-a-letter : (i : ℕ) → i < q .block .length → Letter (u .alphabet) (getD (listedBases u reference (unhex line) q) i 0)
     every-base-is-a-letter = listed-letter u reference (unhex line) q accepted-read
 
 module _ (refFile unitFile : List ℕ) where
@@ -383,7 +383,7 @@ module _ (refFile unitFile : List ℕ) where
   pub nothing-after-06 : (last : List ℕ) → ClosingLine kindDone bytes06 last → suppliedBy refFile unitFile (edges (firstListed refFile unitFile) last) ≡ add []
   nothing-after-06 = three.nothing-after-06 (frontOf refFile unitFile) (front-is-lawful refFile unitFile)
 
-  module _ (o : Opened refFile unitFile) (last : List ℕ) (line : ListedLine (o .unit .records) (countsIn (o .rows)) last) where
+  module _ (o : Opened refFile unitFile) (last : List ℕ) (line : ContinuableLine (o .unit .records) (countsIn (o .rows)) last) where
     -- a well-formed 04 line is believed, whatever its record was: its number says how many 0A are passed over, and its indexes the state
     pub well-formed-is-believed : suppliedBy refFile unitFile (edges (o .first) last)
         ≡ add (joined (onSkip (setupIn o) (stateAt (unhex last)) (skip (bigAt 2 (unhex last) numberPlace + 1) (o .lines))))

@@ -11,24 +11,24 @@ use Rattle.frame.specs.Field.{bigAt}
 use Rattle.frame.proofs.HexLaws.{bytes-unhex}
 use Rattle.unit.specs.Unit.{mostRecords, mostReference}
 use Rattle.unit.specs.State.{mostSymbols, tableLength}
-use Rattle.preface.specs.UnitLine.{unitLine}
-use Rattle.preface.specs.PairLine.{pairLine, pairHead, symbolsAt}
-use Rattle.preface.specs.ReferenceLine.{basesOf, referenceLine}
+use Rattle.front.specs.UnitLine.{unitLine}
+use Rattle.front.specs.PairLine.{pairLine, pairHead, symbolList}
+use Rattle.front.specs.ReferenceLine.{basesOf, referenceLine}
 use Rattle.unit.specs.declared.Unit.{Unit}
-use Rattle.preface.specs.declared.unit_line.UnitLine.{UnitLine}
-use Rattle.preface.specs.declared.unit_line.UnitLine.the-variants as unit
-use Rattle.preface.specs.declared.pair_line.PairLine.{PairLine}
-use Rattle.preface.specs.declared.pair_line.PairLine.the-variants as pair
-use Rattle.preface.specs.declared.reference_line.ReferenceLine.{ReferenceLine}
-use Rattle.preface.specs.declared.reference_line.ReferenceLine.the-variants as ref
+use Rattle.front.specs.declared.unit_line.UnitLine.{UnitLine}
+use Rattle.front.specs.declared.unit_line.UnitLine.the-variants as unit
+use Rattle.front.specs.declared.pair_line.PairLine.{PairLine}
+use Rattle.front.specs.declared.pair_line.PairLine.the-variants as pair
+use Rattle.front.specs.declared.reference_line.ReferenceLine.{ReferenceLine}
+use Rattle.front.specs.declared.reference_line.ReferenceLine.the-variants as ref
 use Rattle.unit.proofs.ValidLaws.{valid-is}
-use Rattle.preface.proofs.UnitLaws.{unit-accepted, unit-valid}
-use Rattle.preface.proofs.PairLaws.{pair-accepted, length-symbols}
-use Rattle.preface.proofs.RefusalLaws.{UnitLow, unit-low, PairLow, pair-low, ReferenceLow, reference-low}
+use Rattle.front.proofs.UnitLaws.{unit-accepted, unit-valid}
+use Rattle.front.proofs.PairLaws.{pair-accepted, length-symbols}
+use Rattle.front.proofs.RefusalLaws.{UnitLow, unit-low, PairLow, pair-low, ReferenceLow, reference-low}
 use Rattle.listing.specs.Record.{FirstLine}
 use Rattle.listing.specs.Files.{Read, good, wrong}
 use Rattle.listing.proofs.ResumeLaws.{first-line}
-use Rattle.decoder.specs.Files.{afterBases, basesFrom, readReference, unitBy, readUnit, symbolsBy, readPair}
+use Rattle.decoder.specs.Files.{afterBases, joinedBases, readReference, unitBy, readUnit, symbolsBy, readPair}
 
 -- ---- the readers
 
@@ -53,14 +53,14 @@ pair-refused i line n e = by (pairLine line i tableLength) (pair-low line i tabl
     by (pair.Count m) h q = wrong-good q
     by (pair.Refused m) h q = let z : m ≡ n = cc in rw (← z) h
 
-bases-refused : (bases : List ℕ) (ls : List (List ℕ)) (n : ℕ) → basesFrom bases ls ≡ wrong n → Early n
-unfolding basesFrom
+bases-refused : (bases : List ℕ) (ls : List (List ℕ)) (n : ℕ) → joinedBases bases ls ≡ wrong n → Early n
+unfolding joinedBases
 bases-refused bases [] n e = wrong-good e
 bases-refused bases (line ∷ ls) n e =
     by (referenceLine line (length bases) mostReference) (reference-low line (length bases)) e (bases-refused (bases ++ basesOf (unhex line)) ls n)
   where
-    by : (r : ReferenceLine) → ReferenceLow r → afterBases r (basesFrom (bases ++ basesOf (unhex line)) ls) ≡ wrong n
-        → (basesFrom (bases ++ basesOf (unhex line)) ls ≡ wrong n → Early n) → Early n
+    by : (r : ReferenceLine) → ReferenceLow r → afterBases r (joinedBases (bases ++ basesOf (unhex line)) ls) ≡ wrong n
+        → (joinedBases (bases ++ basesOf (unhex line)) ls ≡ wrong n → Early n) → Early n
     by (ref.Bases m) h q go = go q
     by (ref.Refused m) h q go = let z : m ≡ n = cc in rw (← z) h
 
@@ -91,7 +91,7 @@ unit-records line u e = valid-is u (unit-valid line u (unit-read line u e)) .rec
 pub record IsRow (i : ℕ) (line row : List ℕ) : Type 0 where
   pub count : ℕ
   pub read : pair.Count count ≡ pairLine line i tableLength
-  pub symbols : row ≡ symbolsAt count (unhex line) pairHead
+  pub symbols : row ≡ symbolList count (unhex line) pairHead
   pub most : length row ≤ mostSymbols
 
 pub pair-row : (i : ℕ) (line row : List ℕ) → readPair i line ≡ good row → IsRow i line row
@@ -100,6 +100,6 @@ pair-row i line row e = by (pairLine line i tableLength) refl e
   where
     by : (r : PairLine) → r ≡ pairLine line i tableLength → symbolsBy line r ≡ good row → IsRow i line row
     by (pair.Count n) h q =
-        let z : row ≡ symbolsAt n (unhex line) pairHead = cc in
+        let z : row ≡ symbolList n (unhex line) pairHead = cc in
         record { count = n; read = h; symbols = z; most = rw (z, length-symbols) (pair-accepted line i tableLength n h .pair .most) }
     by (pair.Refused m) h q = wrong-good (sym q)

@@ -12,13 +12,13 @@ use Rattle.frame.specs.Steps.{storedAt}
 use Rattle.frame.proofs.HexLaws.{by-test}
 use Rattle.unit.specs.State.{subsequences, symbolPlace, tableLength}
 use Rattle.unit.proofs.ValidLaws.{UnitValid, valid-is}
-use Rattle.preface.specs.PairLine.{pairHead, symbolsAt}
-use Rattle.preface.proofs.PairLaws.{length-symbols, symbol-fits}
-use Rattle.preface.proofs.StoreLaws.{length-stored, stored-inside, stored-before, stored-behind}
-use Rattle.preface.proofs.UnitLaws.{UnitFits, unit-fits, unit-valid}
+use Rattle.front.specs.PairLine.{pairHead, symbolList}
+use Rattle.front.proofs.PairLaws.{length-symbols, symbol-fits}
+use Rattle.front.proofs.StoreLaws.{length-stored, stored-inside, stored-before, stored-behind}
+use Rattle.front.proofs.UnitLaws.{UnitFits, unit-fits, unit-valid}
 use Rattle.pairing.specs.Table60.{mateSeqId, mappingPos}
 use Rattle.pairing.proofs.Laws.{link-within}
-use Rattle.part.specs.declared.Placed.{Placed}
+use Rattle.segment.specs.declared.Placed.{Placed}
 use Rattle.plan.specs.Plan.{planOf}
 use Rattle.plan.specs.Said.{PlanTaken, AlignedIn}
 use Rattle.plan.specs.declared.read.Plan.{Plan}
@@ -71,7 +71,7 @@ row-below number line row e i =
     rw (r .symbols)
     (by-test (ltb i (r .count))
     (λ t. symbol-fits (r .count) line pairHead i (ltb-true i (r .count) t))
-    (λ t. rw (List·getD-eq-default (symbolsAt (r .count) (unhex line) pairHead) 0 {n = i} (omega (arith, length-symbols (r .count) (unhex line) pairHead, ltb-false i (r .count) t))) (lit< tt)))
+    (λ t. rw (List·getD-eq-default (symbolList (r .count) (unhex line) pairHead) 0 {n = i} (omega (arith, length-symbols (r .count) (unhex line) pairHead, ltb-false i (r .count) t))) (lit< tt)))
 
 module _ {refFile unitFile : List ℕ} (o : Opened refFile unitFile) where
   opened-symbols : Below (tableOf (o .rows))

@@ -22,7 +22,7 @@ use Rattle.unit.specs.declared.State.{State}
 use Rattle.listing.specs.Lines.{pushByte, linesOf, joined, ends, WholeLine, end, more}
 use Rattle.listing.specs.Files.{good, wrong, pairs}
 use Rattle.listing.specs.Listing.{Front, line05, lastLine, firstOf, restOf, listed, listing, Each, none, one, ListingLine}
-use Rattle.listing.specs.Resuming.{stateAt, edges, ListedLine, add, skip}
+use Rattle.listing.specs.Resuming.{stateAt, edges, ContinuableLine, add, skip}
 use Rattle.listing.specs.Turn.{Turn, go, stop, onTurn, turn, runBy, run}
 use Rattle.listing.proofs.Demand2.{one-call-a-line}
 use Rattle.listing.proofs.Demand3.{one-call-a-line-goes-on}
@@ -185,7 +185,7 @@ module _ {refFile unitFile : List ℕ} (o : Opened refFile unitFile) where
       (calls-as (suc (o .unit .records)) freshState (o .lines) (opened-some o) ∙ one-call-a-line (setupIn o) (opened-lawful o))
 
   -- behind a kept 04 line
-  pub opened-goes-on : (kept-line : List ℕ) → ListedLine (o .unit .records) (countsIn (o .rows)) kept-line → (ls : List (List ℕ))
+  pub opened-goes-on : (kept-line : List ℕ) → ContinuableLine (o .unit .records) (countsIn (o .rows)) kept-line → (ls : List (List ℕ))
       → skip (bigAt 2 (unhex kept-line) numberPlace + 1) (o .lines) ≡ some ls
       → suppliedBy refFile unitFile (edges (o .first) kept-line)
       ≡ add (callsFor o (suc (o .unit .records - (bigAt 2 (unhex kept-line) numberPlace + 1))) (stateAt (unhex kept-line)) ls)

@@ -15,7 +15,7 @@ use Rattle.refusal.specs.Numbers.{missing}
 use Rattle.frame.proofs.HexLaws.{by-test}
 use Rattle.frame.proofs.LineLaws.{lineOfBytes}
 use Rattle.unit.specs.State.{subsequences, freshState}
-use Rattle.unit.specs.Listed.{headOf, Step, refused, accepted}
+use Rattle.unit.specs.Listed.{listedHead, Step, refused, accepted}
 use Rattle.unit.specs.declared.Unit.{Unit}
 use Rattle.unit.specs.declared.State.{State}
 use Rattle.pairing.specs.Take.{taken, raised, symbolOf}
@@ -33,7 +33,7 @@ use Rattle.listing.proofs.ListingLaws.{not-06}
 use Rattle.listing.proofs.Demand2.{done-leaves-no-symbol}
 use Rattle.decoder.specs.Files.{countsIn, tableOf}
 use Rattle.decoder.specs.Decoder.{setupBy, frontOf, Opened, setupIn}
-use Rattle.decoder.specs.Symbols.{symbolsOf, onTaken, takenFrom, symbolsTaken, RecordLine, AllTaken}
+use Rattle.decoder.specs.Symbols.{symbolsOf, onTaken, symbolsTakenFrom, symbolsTaken, RecordLine, AllTaken}
 use Rattle.decoder.proofs.TableLaws.{Few, count-at, symbol-in-row}
 use Rattle.decoder.proofs.LawfulLaws.{front-is-lawful}
 use Rattle.decoder.proofs.OpenedLaws.{opened-front, front-opened, opened-few}
@@ -94,8 +94,8 @@ module _ (u : Unit) (reference : List ℕ) (rows : List (List ℕ)) (few : Few r
 
   -- so do all that follow it
   taken-rows : (first : List ℕ) (lines : List (List ℕ)) (s : ℕ) → s < subsequences → (k : ℕ) (state : State) (ls : List (List ℕ)) → length (state .index) ≡ subsequences
-      → take (taken state s) (getD rows s []) ++ takenFrom u reference (tableOf rows) (countsIn rows) s k state ls ≡ take (taken (stateBehind (setupBy reference u first rows lines) k state ls) s) (getD rows s [])
-  unfolding takenFrom stateBehind
+      → take (taken state s) (getD rows s []) ++ symbolsTakenFrom u reference (tableOf rows) (countsIn rows) s k state ls ≡ take (taken (stateBehind (setupBy reference u first rows lines) k state ls) s) (getD rows s [])
+  unfolding symbolsTakenFrom stateBehind
   taken-rows first lines s known zero state ls i = append-nil _
   taken-rows first lines s known (suc k) state [] i = append-nil _
   taken-rows first lines s known (suc k) state (l ∷ ls) i =
@@ -103,8 +103,8 @@ module _ (u : Unit) (reference : List ℕ) (rows : List (List ℕ)) (few : Few r
     where
       by : (t : Step) → stepOf u reference (tableOf rows) (countsIn rows) state l ≡ t
           → ((next : State) → length (next .index) ≡ subsequences
-          → take (taken next s) (getD rows s []) ++ takenFrom u reference (tableOf rows) (countsIn rows) s k next ls ≡ take (taken (stateBehind (setupBy reference u first rows lines) k next ls) s) (getD rows s []))
-          → take (taken state s) (getD rows s []) ++ onTaken (symbolsOf s (symbolOf (tableOf rows) state) (recordTakes u (tableOf rows) state)) t (λ next. takenFrom u reference (tableOf rows) (countsIn rows) s k next ls)
+          → take (taken next s) (getD rows s []) ++ symbolsTakenFrom u reference (tableOf rows) (countsIn rows) s k next ls ≡ take (taken (stateBehind (setupBy reference u first rows lines) k next ls) s) (getD rows s []))
+          → take (taken state s) (getD rows s []) ++ onTaken (symbolsOf s (symbolOf (tableOf rows) state) (recordTakes u (tableOf rows) state)) t (λ next. symbolsTakenFrom u reference (tableOf rows) (countsIn rows) s k next ls)
           ≡ take (taken (onAccepted state t (λ next. stateBehind (setupBy reference u first rows lines) k next ls)) s) (getD rows s [])
       by (refused n) e go = append-nil _
       by (accepted frame next) e go =
@@ -240,7 +240,7 @@ module _ {refFile unitFile : List ℕ} (o : Opened refFile unitFile) where
         number = n;
         index-before = λ s known. index-taken s known i;
         tail = a .tail;
-        head = a .head ∙ ap (λ (m : ℕ). headOf m (reached (suc i)) ++ a .tail) n;
+        head = a .head ∙ ap (λ (m : ℕ). listedHead m (reached (suc i)) ++ a .tail) n;
         index = λ s known. index-taken s known (suc i);
       }
 

@@ -9,17 +9,17 @@ use Rattle.frame.specs.Hex.{unhex}
 use Rattle.unit.specs.Unit.{mostReference}
 use Rattle.unit.specs.State.{subsequences, mostSymbols, symbolPlace, tableLength}
 use Rattle.frame.specs.Steps.{storedAt}
-use Rattle.preface.specs.PairLine.{tableBy, tableAfter}
-use Rattle.preface.specs.ReferenceLine.{basesOf, referenceLine, referenceAfter}
-use Rattle.preface.specs.declared.reference_line.ReferenceLine.{ReferenceLine}
-use Rattle.preface.specs.declared.reference_line.ReferenceLine.the-variants.{Bases, Refused}
-use Rattle.preface.proofs.ReferenceLaws.{reference-accepted, reference-joined, length-reference}
-use Rattle.preface.proofs.PairLaws.{length-table}
-use Rattle.preface.proofs.StoreLaws.{length-stored, stored-inside, stored-before}
+use Rattle.front.specs.PairLine.{tableBy, tableAfter}
+use Rattle.front.specs.ReferenceLine.{basesOf, referenceLine, referenceAfter}
+use Rattle.front.specs.declared.reference_line.ReferenceLine.{ReferenceLine}
+use Rattle.front.specs.declared.reference_line.ReferenceLine.the-variants.{Bases, Refused}
+use Rattle.front.proofs.ReferenceLaws.{reference-accepted, reference-joined, length-reference}
+use Rattle.front.proofs.PairLaws.{length-table}
+use Rattle.front.proofs.StoreLaws.{length-stored, stored-inside, stored-before}
 use Rattle.unit.specs.declared.State.{State}
 use Rattle.pairing.specs.Take.{taken, symbolOf}
 use Rattle.listing.specs.Files.{good}
-use Rattle.decoder.specs.Files.{afterBases, basesFrom, basesInto, readPair, countsIn, rowsInto, emptyTable, tableOf, readsInto}
+use Rattle.decoder.specs.Files.{afterBases, joinedBases, basesInto, readPair, countsIn, rowsInto, emptyTable, tableOf, readsInto}
 use Rattle.decoder.proofs.FilesLaws.{pair-row}
 
 -- no subsequence has more symbols than the limit
@@ -104,17 +104,17 @@ reads-rows (line ∷ pairs) (row ∷ rows) t i long e read =
 -- ---- the reference, likewise
 
 -- one read a reference line leaves the bases at the front of what is lent
-pub reads-bases : (ls : List (List ℕ)) (t bases all : List ℕ) → length t ≡ mostReference → take (length bases) t ≡ bases → basesFrom bases ls ≡ good all
+pub reads-bases : (ls : List (List ℕ)) (t bases all : List ℕ) → length t ≡ mostReference → take (length bases) t ≡ bases → joinedBases bases ls ≡ good all
     → take (length all) (basesInto t (length bases) ls) ≡ all
-unfolding basesFrom basesInto
+unfolding joinedBases basesInto
 reads-bases [] t bases all long front e = let z : bases ≡ all = cc in rw (← z) front
 reads-bases (line ∷ ls) t bases all long front e =
     by (referenceLine line (length bases) mostReference) refl e (reads-bases ls (referenceAfter line (length bases) t) (bases ++ basesOf (unhex line)) all)
   where
-    by : (r : ReferenceLine) → r ≡ referenceLine line (length bases) mostReference → afterBases r (basesFrom (bases ++ basesOf (unhex line)) ls) ≡ good all
+    by : (r : ReferenceLine) → r ≡ referenceLine line (length bases) mostReference → afterBases r (joinedBases (bases ++ basesOf (unhex line)) ls) ≡ good all
         → (length (referenceAfter line (length bases) t) ≡ mostReference
         → take (length (bases ++ basesOf (unhex line))) (referenceAfter line (length bases) t) ≡ bases ++ basesOf (unhex line)
-        → basesFrom (bases ++ basesOf (unhex line)) ls ≡ good all
+        → joinedBases (bases ++ basesOf (unhex line)) ls ≡ good all
         → take (length all) (basesInto (referenceAfter line (length bases) t) (length (bases ++ basesOf (unhex line))) ls) ≡ all)
         → take (length all) (basesInto (referenceAfter line (length bases) t) (length bases + length (basesOf (unhex line))) ls) ≡ all
     by (Bases n) h q go =

@@ -11,7 +11,7 @@ use Rattle.listing.specs.Lines.{linesOf}
 use Rattle.listing.specs.Record.{Setup}
 use Rattle.listing.specs.Files.{good, front}
 use Rattle.listing.specs.Listing.{Front, firstOf, restOf, listed, listing}
-use Rattle.listing.specs.Resuming.{Edges, Answer, supply, edgesIn, resumed, resumedAgain}
+use Rattle.listing.specs.Resuming.{Edges, Supplied, supply, edgesIn, resumed, resumedAgain}
 use Rattle.decoder.specs.Files.{readReference, readUnit, readPair, countsIn, tableOf}
 
 -- a unit with its reference, its pair symbols and their counts, its unit line and the lines behind the pair lines; a record is listed by the record call
@@ -67,11 +67,11 @@ setupIn o = setupBy (o .reference) (o .unit) (o .first) (o .rows) (o .lines)
 -- ---- resuming
 
 -- what is added, by the first and the last kept line of a found file; or the refusal
-abbrev pub suppliedBy : List ℕ → List ℕ → Edges → Answer
+abbrev pub suppliedBy : List ℕ → List ℕ → Edges → Supplied
 suppliedBy refFile unitFile e = supply (frontOf refFile unitFile) e
 
 -- what is added, by the found file itself
-abbrev pub suppliedOf : List ℕ → List ℕ → List ℕ → Answer
+abbrev pub suppliedOf : List ℕ → List ℕ → List ℕ → Supplied
 suppliedOf refFile unitFile found = suppliedBy refFile unitFile (edgesIn found)
 
 -- what the resume program prints for a found file

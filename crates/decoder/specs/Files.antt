@@ -7,16 +7,16 @@ use Rattle.frame.specs.Hex.{unhex}
 use Rattle.unit.specs.Unit.{mostReference}
 use Rattle.unit.specs.State.{symbolPlace, tableLength}
 use Rattle.frame.specs.Steps.{storedAt}
-use Rattle.preface.specs.UnitLine.{unitLine}
-use Rattle.preface.specs.PairLine.{pairHead, pairLine, symbolsAt, tableAfter}
-use Rattle.preface.specs.ReferenceLine.{basesOf, referenceLine, referenceAfter}
+use Rattle.front.specs.UnitLine.{unitLine}
+use Rattle.front.specs.PairLine.{pairHead, pairLine, symbolList, tableAfter}
+use Rattle.front.specs.ReferenceLine.{basesOf, referenceLine, referenceAfter}
 use Rattle.unit.specs.declared.Unit.{Unit}
-use Rattle.preface.specs.declared.unit_line.UnitLine.{UnitLine}
-use Rattle.preface.specs.declared.unit_line.UnitLine.the-variants as unit
-use Rattle.preface.specs.declared.pair_line.PairLine.{PairLine}
-use Rattle.preface.specs.declared.pair_line.PairLine.the-variants as pair
-use Rattle.preface.specs.declared.reference_line.ReferenceLine.{ReferenceLine}
-use Rattle.preface.specs.declared.reference_line.ReferenceLine.the-variants as ref
+use Rattle.front.specs.declared.unit_line.UnitLine.{UnitLine}
+use Rattle.front.specs.declared.unit_line.UnitLine.the-variants as unit
+use Rattle.front.specs.declared.pair_line.PairLine.{PairLine}
+use Rattle.front.specs.declared.pair_line.PairLine.the-variants as pair
+use Rattle.front.specs.declared.reference_line.ReferenceLine.{ReferenceLine}
+use Rattle.front.specs.declared.reference_line.ReferenceLine.the-variants as ref
 use Rattle.listing.specs.Files.{Read, good, wrong}
 
 -- ---- 07 reference
@@ -27,13 +27,13 @@ afterBases (ref.Bases n) more = more
 afterBases (ref.Refused n) more = wrong n
 
 -- "Lines are joined": the symbol indexes of these lines behind those that are there; at most 32,768 in all
-unfoldable pub basesFrom : List ℕ → List (List ℕ) → Read (List ℕ)
-basesFrom bases [] = good bases
-basesFrom bases (line ∷ ls) = afterBases (referenceLine line (length bases) mostReference) (basesFrom (bases ++ basesOf (unhex line)) ls)
+unfoldable pub joinedBases : List ℕ → List (List ℕ) → Read (List ℕ)
+joinedBases bases [] = good bases
+joinedBases bases (line ∷ ls) = afterBases (referenceLine line (length bases) mostReference) (joinedBases (bases ++ basesOf (unhex line)) ls)
 
 -- the lines of reference.hex, "none giving an empty reference"
 abbrev pub readReference : List (List ℕ) → Read (List ℕ)
-readReference ls = basesFrom [] ls
+readReference ls = joinedBases [] ls
 
 -- ---- 01 unit
 
@@ -50,7 +50,7 @@ readUnit line = unitBy (unitLine line)
 
 -- the symbols behind the count of a line that is accepted, or its refusal
 abbrev pub symbolsBy : List ℕ → PairLine → Read (List ℕ)
-symbolsBy line (pair.Count n) = good (symbolsAt n (unhex line) pairHead)
+symbolsBy line (pair.Count n) = good (symbolList n (unhex line) pairHead)
 symbolsBy line (pair.Refused n) = wrong n
 
 -- the symbols of subsequence i

@@ -8,7 +8,7 @@ use lib.Dec.{eqb}
 use lib.ListN.{length, getD}
 use Rattle.frame.specs.Line.{lineOfBytes}
 use Rattle.unit.specs.State.{subsequences, freshState}
-use Rattle.unit.specs.Listed.{Step, refused, accepted, headOf}
+use Rattle.unit.specs.Listed.{Step, refused, accepted, listedHead}
 use Rattle.unit.specs.declared.Unit.{Unit}
 use Rattle.unit.specs.declared.State.{State}
 use Rattle.pairing.specs.Take.{taken, symbolOf}
@@ -31,15 +31,15 @@ onTaken here (accepted frame next) more = here ++ more next
 
 module _ (u : Unit) (reference symbols counts : List ℕ) where
   -- the symbols of subsequence s that so many records take, from a state on
-  unfoldable pub takenFrom : ℕ → ℕ → State → List (List ℕ) → List ℕ
-  takenFrom s zero state ls = []
-  takenFrom s (suc k) state [] = []
-  takenFrom s (suc k) state (l ∷ ls) =
-      onTaken (symbolsOf s (symbolOf symbols state) (recordTakes u symbols state)) (stepOf u reference symbols counts state l) (λ next. takenFrom s k next ls)
+  unfoldable pub symbolsTakenFrom : ℕ → ℕ → State → List (List ℕ) → List ℕ
+  symbolsTakenFrom s zero state ls = []
+  symbolsTakenFrom s (suc k) state [] = []
+  symbolsTakenFrom s (suc k) state (l ∷ ls) =
+      onTaken (symbolsOf s (symbolOf symbols state) (recordTakes u symbols state)) (stepOf u reference symbols counts state l) (λ next. symbolsTakenFrom s k next ls)
 
 -- the symbols of subsequence s that the first k records of two files take
 abbrev pub symbolsTaken : {refFile unitFile : List ℕ} → Opened refFile unitFile → ℕ → ℕ → List ℕ
-symbolsTaken o s k = takenFrom (o .unit) (o .reference) (tableOf (o .rows)) (countsIn (o .rows)) s k freshState (o .lines)
+symbolsTaken o s k = symbolsTakenFrom (o .unit) (o .reference) (tableOf (o .rows)) (countsIn (o .rows)) s k freshState (o .lines)
 
 -- the 04 line of record i is what the record call answers for the i-th line behind the pair lines, from the state behind the records before it;
 -- it carries its number and "the eight pair indexes after this record": how many symbols of each subsequence the records up to this one take
@@ -52,7 +52,7 @@ pub record RecordLine {refFile unitFile : List ℕ} (o : Opened refFile unitFile
   pub number : before .number ≡ i
   pub index-before : (s : ℕ) → s < subsequences → taken before s ≡ length (symbolsTaken o s i)
   pub tail : List ℕ
-  pub head : frame ≡ headOf i next ++ tail
+  pub head : frame ≡ listedHead i next ++ tail
   pub index : (s : ℕ) → s < subsequences → taken next s ≡ length (symbolsTaken o s (suc i))
 
 -- every record is listed, the 06 line carries the record count, and every pair symbol is taken, once and in order

@@ -11,12 +11,12 @@ use Rattle.writing.specs.Decimal.{decimalF, decimal}
 use Rattle.writing.proofs.DecimalLaws.{bytes-digits}
 use Rattle.alphabet.specs.Table35.{letterOf}
 use Rattle.alphabet.proofs.AlphabetLaws.{letter-byte}
-use Rattle.block.specs.Edits.{substitution, insertion, deletion}
-use Rattle.block.specs.Segment.{mappedLength}
-use Rattle.block.specs.declared.edit.Edit.{Edit}
-use Rattle.block.specs.declared.Segment.{Segment}
-use Rattle.ecigar.specs.Table90.{Operation, matched, substituted, inserted, deleted, softClipped, hardClipped, counted, print, printed}
-use Rattle.ecigar.specs.Ecigar.{joinsRun, past, matches, openRun, gap, mark, ending, operationsFrom, clip, leftClip, segmentOperations, segmentEdits, setOut, ecigarText}
+use Rattle.edits.specs.Edits.{substitution, insertion, deletion}
+use Rattle.edits.specs.Lengths.{mappedLength}
+use Rattle.edits.specs.declared.edit.Edit.{Edit}
+use Rattle.edits.specs.declared.Block.{Block}
+use Rattle.ecigar.specs.Table90.{Operation, matched, substituted, inserted, deleted, softClipped, hardClipped, counted, print, printAll}
+use Rattle.ecigar.specs.Ecigar.{joinsRun, past, matches, openRun, gap, mark, ending, operationsFrom, clip, leftClip, blockOperations, blockEdits, setOut, ecigarText}
 use Rattle.ecigar.specs.declared.walk.Walk.{Walk}
 use Rattle.ecigar.proofs.PrintLaws.{printed-append, printed-one}
 
@@ -28,17 +28,17 @@ bytes-counted n sign h = bytes-append (decimalF (suc n) n) (sign ∷ []) (bytes-
 
 -- what is printed of operations is bytes
 abbrev Prints : List Operation → Type 0
-Prints os = Bytes (printed os)
+Prints os = Bytes (printAll os)
 
 no-prints : Prints []
-unfolding printed Bytes
+unfolding printAll Bytes
 no-prints = tt
 
 one-prints : (o : Operation) → Bytes (print o) → Prints (o ∷ [])
 one-prints o h = rw (printed-one o) h
 
 both-print : (os ps : List Operation) → Prints os → Prints ps → Prints (os ++ ps)
-both-print os ps h k = rw (printed-append os ps) (bytes-append (printed os) (printed ps) h k)
+both-print os ps h k = rw (printed-append os ps) (bytes-append (printAll os) (printAll ps) h k)
 
 bytes-bracketed : (left n right : ℕ) → left < 256 → right < 256 → Bytes (left ∷ counted n right)
 bytes-bracketed left n right h k = bytes-append (left ∷ []) (counted n right) (bytes-one left h) (bytes-counted n right k)
@@ -74,10 +74,10 @@ clip-prints soft hard =
     one-of Prints (not (eqb soft 0)) _ _ (one-prints (softClipped soft) (bytes-bracketed _ soft _ (lit< tt) (lit< tt)))
     (one-of Prints (not (eqb hard 0)) _ _ (one-prints (hardClipped hard) (bytes-bracketed _ hard _ (lit< tt) (lit< tt))) no-prints)
 
-pub bytes-ecigar : (class alphabet : ℕ) (frame : List ℕ) (s : Segment) → Bytes (ecigarText class alphabet frame s)
-unfolding ecigarText segmentOperations
+pub bytes-ecigar : (class alphabet : ℕ) (frame : List ℕ) (s : Block) → Bytes (ecigarText class alphabet frame s)
+unfolding ecigarText blockOperations
 bytes-ecigar class alphabet frame s =
-    let middle = operationsFrom alphabet (mappedLength (s .length) (s .clips)) setOut (segmentEdits class alphabet frame s) in
+    let middle = operationsFrom alphabet (mappedLength (s .length) (s .clips)) setOut (blockEdits class alphabet frame s) in
     both-print (leftClip (s .clips) ++ middle) _
     (both-print (leftClip (s .clips)) middle (clip-prints _ _) (operations-print alphabet _ setOut _))
     (clip-prints _ _)

@@ -14,18 +14,18 @@ use Rattle.refusal.specs.Numbers.{fine, misframed}
 use Rattle.frame.specs.Hex.{unhex}
 use Rattle.frame.proofs.HexLaws.{by-test, length-unhex}
 use Rattle.alphabet.specs.Table35.{sizeOf}
-use Rattle.block.specs.Edits.{substitution, insertion, widthOf, editAt, editsAt, nextOffset, editRefusal, Sound, takenFrom, takenBy}
-use Rattle.block.specs.Segment.{mostRead, mostEdits}
-use Rattle.block.specs.declared.edit.Edit.{Edit}
-use Rattle.block.proofs.EditLaws.{Accepted, edits-on, edits-none, next-least}
+use Rattle.edits.specs.Edits.{substitution, insertion, widthOf, editAt, editsAt, nextOffset, editRefusal, Sound, takenFrom, takenBy}
+use Rattle.edits.specs.Lengths.{mostRead, mostEdits}
+use Rattle.edits.specs.declared.edit.Edit.{Edit}
+use Rattle.edits.proofs.EditLaws.{EditAccepted, edits-on, edits-none, next-least}
 use Rattle.ecigar.specs.declared.walk.Walk.{Walk}
 use Rattle.ecigar.specs.declared.check.Tally.{Tally}
-use Rattle.ecigar.specs.declared.check.Checked.{Checked}
-use Rattle.ecigar.specs.declared.check.Checked.the-variants.{Fine, Refused}
-use Rattle.ecigar.specs.Table90.{printed}
+use Rattle.ecigar.specs.declared.check.EditsChecked.{EditsChecked}
+use Rattle.ecigar.specs.declared.check.EditsChecked.the-variants.{Fine, Refused}
+use Rattle.ecigar.specs.Table90.{printAll}
 use Rattle.ecigar.specs.Ecigar.{past, gap, mark, operationsFrom, ecigarOf}
 use Rattle.ecigar.specs.Check.{endsWithin, editsRefusal, answered, editsChecked, checkOf}
-use Rattle.ecigar.specs.Tally.{startTally, textBy, tallied, finished}
+use Rattle.ecigar.specs.Tally.{startTally, textBy, tallied, afterLast}
 use Rattle.ecigar.proofs.PrintLaws.{length-printed}
 use Rattle.ecigar.proofs.WalkLaws.{Open, length-mark, text-on, text-end, past-next, past-run, past-open, edit-most}
 
@@ -48,12 +48,12 @@ takenBy-most next e h = by-test (eqb (e .kind) insertion) (λ k. simp k (omega a
 -- ---- a turn of the loop: what is left, from here, comes to what the whole comes to
 
 -- the check of k edits from a place on, after a tally
-unfoldable pub checkedFrom : ℕ → ℕ → List ℕ → ℕ → ℕ → ℕ → Tally → Checked
+unfoldable pub checkedFrom : ℕ → ℕ → List ℕ → ℕ → ℕ → ℕ → Tally → EditsChecked
 checkedFrom class alphabet frame mapped k at t =
     answered
     (editsRefusal class alphabet frame mapped (t .walk .next) k at)
     (t .taken + takenFrom mapped (t .walk .next) (editsAt class alphabet frame k at))
-    (t .text + length (printed (operationsFrom alphabet mapped (t .walk) (editsAt class alphabet frame k at))))
+    (t .text + length (printAll (operationsFrom alphabet mapped (t .walk) (editsAt class alphabet frame k at))))
 
 pub check-start : (class alphabet : ℕ) (frame : List ℕ) (mapped k at : ℕ) (t : Tally) → t ≡ startTally
     → checkedFrom class alphabet frame mapped k at t ≡ editsChecked class alphabet frame at k mapped
@@ -95,29 +95,29 @@ module _ (class alphabet : ℕ) (frame : List ℕ) (mapped k at step symbols : �
         let refused : editsRefusal class alphabet frame mapped (t .walk .next) k at ≡ editsRefusal class alphabet frame mapped (nextOffset e) (k - 1) (at + step) =
         refusal-here ∙ rw (← whole, ← it) (simp (eq-eqb _ _ z)) in
         let taken : t .taken + takenFrom mapped (t .walk .next) (e ∷ es) ≡ t .taken + ((e .offset - t .walk .next) + cond (eqb (e .kind) insertion) 0 1) + takenFrom mapped (nextOffset e) es = omega arith in
-        let text : t .text + length (printed (operationsFrom alphabet mapped (t .walk) (e ∷ es)))
-        ≡ t .text + (length (printed (gap (t .walk) e)) + cond (eqb (e .kind) substitution) 1 0) + length (printed (operationsFrom alphabet mapped (past (t .walk) e) es)) =
-        omega (arith, ap length (text-on alphabet mapped (t .walk) e es), length-append (printed (gap (t .walk) e ++ mark alphabet e)) (printed (operationsFrom alphabet mapped (past (t .walk) e) es)), length-printed (gap (t .walk) e) (mark alphabet e), length-mark alphabet e) in
+        let text : t .text + length (printAll (operationsFrom alphabet mapped (t .walk) (e ∷ es)))
+        ≡ t .text + (length (printAll (gap (t .walk) e)) + cond (eqb (e .kind) substitution) 1 0) + length (printAll (operationsFrom alphabet mapped (past (t .walk) e) es)) =
+        omega (arith, ap length (text-on alphabet mapped (t .walk) e es), length-append (printAll (gap (t .walk) e ++ mark alphabet e)) (printAll (operationsFrom alphabet mapped (past (t .walk) e) es)), length-printed (gap (t .walk) e) (mark alphabet e), length-mark alphabet e) in
         rw (q, list, refused, taken, text)
 
 pub check-end : (class alphabet : ℕ) (frame : List ℕ) (mapped k at : ℕ) (t : Tally) → k ≤ 0
-    → checkedFrom class alphabet frame mapped k at t ≡ finished mapped t
-unfolding checkedFrom answered editsRefusal takenFrom finished
+    → checkedFrom class alphabet frame mapped k at t ≡ afterLast mapped t
+unfolding checkedFrom answered editsRefusal takenFrom afterLast
 check-end class alphabet frame mapped k at t h =
     let z : k ≡ 0 = omega arith in rw (edits-none class alphabet frame k at h, z, text-end alphabet mapped (t .walk))
 
 -- ---- the bounds on the way
 
 -- where a tally stands when k of n edits are left
-pub record Within (mapped n k : ℕ) (t : Tally) : Type 0 where
+pub record TallyWithin (mapped n k : ℕ) (t : Tally) : Type 0 where
   pub next : t .walk .next ≤ mapped
   pub run : t .walk .run + k ≤ n
   pub begun : Open (t .walk)
   pub taken : t .taken + k ≤ t .walk .next + n
   pub text : t .text + 2 * t .walk .run + 2 * k ≤ 2 * t .walk .next + 2 * n
 
-pub within-on : (mapped symbols n k : ℕ) (t r : Tally) (e : Edit) → Within mapped n k t → 0 < k → Accepted mapped symbols (t .walk .next) e → r ≡ tallied t e
-    → Within mapped n (k - 1) r
+pub within-on : (mapped symbols n k : ℕ) (t r : Tally) (e : Edit) → TallyWithin mapped n k t → 0 < k → EditAccepted mapped symbols (t .walk .next) e → r ≡ tallied t e
+    → TallyWithin mapped n (k - 1) r
 unfolding tallied textBy
 within-on mapped symbols n k t r e w h a q =
     let walk : r .walk ≡ past (t .walk) e = ap (λ (x : Tally). x .walk) q in

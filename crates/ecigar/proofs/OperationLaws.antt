@@ -13,17 +13,17 @@ use lib.ListN.{length, length-append}
 use Rattle.frame.proofs.HexLaws.{by-test}
 use Rattle.writing.proofs.DecimalLaws.{digits-short}
 use Rattle.alphabet.specs.Table35.{sizeOf, letterOf}
-use Rattle.block.specs.Edits.{substitution, insertion, deletion, nextOffset, editsAt, Sound, takenFrom}
-use Rattle.block.specs.Segment.{mostRead, mostEdits, mostEcigar, softBases, mappedLength}
-use Rattle.block.specs.declared.edit.Edit.{Edit}
-use Rattle.block.specs.declared.Clips.{Clips}
-use Rattle.block.specs.declared.Segment.{Segment}
-use Rattle.block.proofs.EditLaws.{Accepted, sound-tail, next-deletion, next-other, length-edits, sound-accepted}
+use Rattle.edits.specs.Edits.{substitution, insertion, deletion, nextOffset, editsAt, Sound, takenFrom}
+use Rattle.edits.specs.Lengths.{mostRead, mostEdits, mostEcigar, softBases, mappedLength}
+use Rattle.edits.specs.declared.edit.Edit.{Edit}
+use Rattle.edits.specs.declared.Clips.{Clips}
+use Rattle.edits.specs.declared.Block.{Block}
+use Rattle.edits.proofs.EditLaws.{EditAccepted, sound-tail, next-deletion, next-other, length-edits, sound-accepted}
 use Rattle.ecigar.specs.declared.walk.Walk.{Walk}
-use Rattle.ecigar.specs.declared.check.Checked.the-variants.{Fine}
+use Rattle.ecigar.specs.declared.check.EditsChecked.the-variants.{Fine}
 use Rattle.ecigar.specs.Check.{checkOf}
-use Rattle.ecigar.specs.Table90.{Operation, matched, substituted, inserted, deleted, roundClose, squareClose, printed, movesRead, movesReference, total, AllPositive}
-use Rattle.ecigar.specs.Ecigar.{setOut, joinsRun, past, matches, openRun, gap, mark, ending, operationsFrom, operationsOf, ecigarOf, clip, clipsLength, leftClip, rightClip, segmentEdits, segmentOperations, ecigarText}
+use Rattle.ecigar.specs.Table90.{Operation, matched, substituted, inserted, deleted, roundClose, squareClose, printAll, movesRead, movesReference, total, AllPositive}
+use Rattle.ecigar.specs.Ecigar.{setOut, joinsRun, past, matches, openRun, gap, mark, ending, operationsFrom, operationsOf, ecigarOf, clip, clipsLength, leftClip, rightClip, blockEdits, blockOperations, ecigarText}
 use Rattle.ecigar.proofs.PrintLaws.{length-counted, length-printed}
 use Rattle.ecigar.proofs.WalkLaws.{Open, length-mark, ending-both, text-on, text-end, past-next, past-kind, past-open, past-joined, past-apart, joins-true, matches-most, closed-most, edit-most, clip-soft, clip-hard, clip-none}
 use Rattle.ecigar.proofs.CheckLaws.{checked-fine}
@@ -70,13 +70,13 @@ positive-clip soft hard =
     (λ a. by-test (eqb hard 0) (λ b. rw (a, b) tt) (λ b. let z = eqb-false hard 0 b in rw (a, b) (omega arith, tt)))
     (λ a. let z = eqb-false soft 0 a in rw a (omega arith, tt))
 
-pub counts-positive : (class alphabet : ℕ) (frame : List ℕ) (s : Segment) → AllPositive (segmentOperations class alphabet frame s)
-unfolding segmentOperations
+pub counts-positive : (class alphabet : ℕ) (frame : List ℕ) (s : Block) → AllPositive (blockOperations class alphabet frame s)
+unfolding blockOperations
 counts-positive class alphabet frame s =
     let c = s .clips in
-    let os = operationsOf alphabet (mappedLength (s .length) c) (segmentEdits class alphabet frame s) in
+    let os = operationsOf alphabet (mappedLength (s .length) c) (blockEdits class alphabet frame s) in
     positive-append (leftClip c ++ os) (rightClip c)
-    (positive-append (leftClip c) os (positive-clip (c .«left_soft») (c .«left_hard»)) (positive-from alphabet (mappedLength (s .length) c) setOut (segmentEdits class alphabet frame s) (inl refl)))
+    (positive-append (leftClip c) os (positive-clip (c .«left_soft») (c .«left_hard»)) (positive-from alphabet (mappedLength (s .length) c) setOut (blockEdits class alphabet frame s) (inl refl)))
     (positive-clip (c .«right_soft») (c .«right_hard»))
 
 -- ---- how far they move a pointer
@@ -173,7 +173,7 @@ module _ (m : Operation → ℕ) (known : Moves m) where
   -- so the pointer moves from edit to edit as `left` says, and by the last match at the end
   total-from : (alphabet mapped symbols : ℕ) (left : ℕ → List Edit → ℕ)
       → ((next : ℕ) → left next [] ≡ mapped - next)
-      → ((next : ℕ) (e : Edit) (es : List Edit) → Accepted mapped symbols next e → left next (e ∷ es) ≡ (e .offset - next) + own e + left (nextOffset e) es)
+      → ((next : ℕ) (e : Edit) (es : List Edit) → EditAccepted mapped symbols next e → left next (e ∷ es) ≡ (e .offset - next) + own e + left (nextOffset e) es)
       → (w : Walk) (es : List Edit) → Sound mapped symbols (w .next) es → total m (operationsFrom alphabet mapped w es) ≡ total m (openRun w) + left (w .next) es
   unfolding operationsFrom ending
   total-from alphabet mapped symbols left end on w [] s =
@@ -243,55 +243,55 @@ unfolding total clip
 clip-reference soft hard =
     by-test (eqb soft 0) (λ a. by-test (eqb hard 0) (λ b. rw (a, b)) (λ b. rw (a, b))) (λ a. rw a)
 
-module _ (class alphabet : ℕ) (frame : List ℕ) (s : Segment)
-    (sound : Sound (mappedLength (s .length) (s .clips)) (sizeOf alphabet) 0 (segmentEdits class alphabet frame s)) where
+module _ (class alphabet : ℕ) (frame : List ℕ) (s : Block)
+    (sound : Sound (mappedLength (s .length) (s .clips)) (sizeOf alphabet) 0 (blockEdits class alphabet frame s)) where
   abbrev mapped : ℕ
   mapped = mappedLength (s .length) (s .clips)
 
   -- the operations consume the read length exactly
-  pub operations-read : softBases (s .clips) ≤ s .length → total movesRead (segmentOperations class alphabet frame s) ≡ s .length
-  unfolding segmentOperations
+  pub operations-read : softBases (s .clips) ≤ s .length → total movesRead (blockOperations class alphabet frame s) ≡ s .length
+  unfolding blockOperations
   operations-read h =
       let c = s .clips in
-      let os = operationsOf alphabet mapped (segmentEdits class alphabet frame s) in
+      let os = operationsOf alphabet mapped (blockEdits class alphabet frame s) in
       omega (
         arith,
         total-append movesRead (leftClip c ++ os) (rightClip c),
         total-append movesRead (leftClip c) os,
         clip-read (c .«left_soft») (c .«left_hard»),
         clip-read (c .«right_soft») (c .«right_hard»),
-        edits-read alphabet mapped (sizeOf alphabet) (segmentEdits class alphabet frame s) sound,
+        edits-read alphabet mapped (sizeOf alphabet) (blockEdits class alphabet frame s) sound,
       )
 
   -- and move R by the reference positions that the edits take
-  pub operations-reference : total movesReference (segmentOperations class alphabet frame s) ≡ takenFrom mapped 0 (segmentEdits class alphabet frame s)
-  unfolding segmentOperations
+  pub operations-reference : total movesReference (blockOperations class alphabet frame s) ≡ takenFrom mapped 0 (blockEdits class alphabet frame s)
+  unfolding blockOperations
   operations-reference =
       let c = s .clips in
-      let os = operationsOf alphabet mapped (segmentEdits class alphabet frame s) in
+      let os = operationsOf alphabet mapped (blockEdits class alphabet frame s) in
       omega (
         arith,
         total-append movesReference (leftClip c ++ os) (rightClip c),
         total-append movesReference (leftClip c) os,
         clip-reference (c .«left_soft») (c .«left_hard»),
         clip-reference (c .«right_soft») (c .«right_hard»),
-        edits-reference alphabet mapped (sizeOf alphabet) (segmentEdits class alphabet frame s) sound,
+        edits-reference alphabet mapped (sizeOf alphabet) (blockEdits class alphabet frame s) sound,
       )
 
 -- ---- how long the text is
 
 -- two characters for each mapped base and for each edit
 from-most : (alphabet mapped symbols : ℕ) (w : Walk) (es : List Edit) → Open w → w .next ≤ mapped → Sound mapped symbols (w .next) es
-    → length (printed (operationsFrom alphabet mapped w es)) + 2 * w .next ≤ 2 * w .run + 2 * mapped + 2 * length es
+    → length (printAll (operationsFrom alphabet mapped w es)) + 2 * w .next ≤ 2 * w .run + 2 * mapped + 2 * length es
 from-most alphabet mapped symbols w [] o n s =
-    omega (arith, ap length (text-end alphabet mapped w ∙ ending-both mapped w), length-append (printed (openRun w)) (printed (matches (mapped - w .next))), closed-most w o, matches-most (mapped - w .next))
+    omega (arith, ap length (text-end alphabet mapped w ∙ ending-both mapped w), length-append (printAll (openRun w)) (printAll (matches (mapped - w .next))), closed-most w o, matches-most (mapped - w .next))
 from-most alphabet mapped symbols w (e ∷ es) o n s =
     let a = sound-accepted mapped symbols (w .next) e es s in
     let q = past-next w e refl in
     omega (
       arith,
       ap length (text-on alphabet mapped w e es),
-      length-append (printed (gap w e ++ mark alphabet e)) (printed (operationsFrom alphabet mapped (past w e) es)),
+      length-append (printAll (gap w e ++ mark alphabet e)) (printAll (operationsFrom alphabet mapped (past w e) es)),
       length-printed (gap w e) (mark alphabet e),
       length-mark alphabet e,
       edit-most w e o (a .order),
@@ -304,7 +304,7 @@ unfolding ecigarOf
 edits-most alphabet mapped symbols es s = omega (arith, from-most alphabet mapped symbols setOut es (inl refl) (omega arith) s)
 
 -- a bracketed clip of at most five digits
-pub clip-most : (soft hard : ℕ) → soft < 2 ^ 16 → hard < 2 ^ 16 → length (printed (clip soft hard)) ≤ 7
+pub clip-most : (soft hard : ℕ) → soft < 2 ^ 16 → hard < 2 ^ 16 → length (printAll (clip soft hard)) ≤ 7
 clip-most soft hard g h =
     by-test (eqb soft 0)
     (λ a. by-test (eqb hard 0)
@@ -335,14 +335,14 @@ text-most class alphabet frame at count mapped taken text q =
     omega (arith, f .text, f .few, f .short, edits-most alphabet mapped (sizeOf alphabet) (editsAt class alphabet frame count at) (f .sound), length-edits class alphabet frame count at)
 
 -- no E-CIGAR is longer than 4,014 characters (document 01)
-pub ecigar-most : (class alphabet : ℕ) (frame : List ℕ) (s : Segment) → s .edits ≤ mostEdits → s .length ≤ mostRead → ClipsFit (s .clips)
-    → Sound (mappedLength (s .length) (s .clips)) (sizeOf alphabet) 0 (segmentEdits class alphabet frame s)
+pub ecigar-most : (class alphabet : ℕ) (frame : List ℕ) (s : Block) → s .edits ≤ mostEdits → s .length ≤ mostRead → ClipsFit (s .clips)
+    → Sound (mappedLength (s .length) (s .clips)) (sizeOf alphabet) 0 (blockEdits class alphabet frame s)
     → length (ecigarText class alphabet frame s) ≤ mostEcigar
 ecigar-most class alphabet frame s few short c sound =
     omega (
       arith,
       length-text class alphabet frame s,
-      edits-most alphabet (mappedLength (s .length) (s .clips)) (sizeOf alphabet) (segmentEdits class alphabet frame s) sound,
+      edits-most alphabet (mappedLength (s .length) (s .clips)) (sizeOf alphabet) (blockEdits class alphabet frame s) sound,
       length-edits class alphabet frame (s .edits) (s .«edits_at»),
       clip-most (s .clips .«left_soft») (s .clips .«left_hard») (c .left-soft) (c .left-hard),
       clip-most (s .clips .«right_soft») (s .clips .«right_hard») (c .right-soft) (c .right-hard),

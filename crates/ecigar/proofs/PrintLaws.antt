@@ -5,7 +5,7 @@ use mathlib.Core.List.{List, [], _∷_, _++_, append-nil, append-assoc}
 use Prim.Native.Nat.{ℕ, _+_}
 use lib.ListN.{length, length-append}
 use Rattle.writing.specs.Decimal.{decimal}
-use Rattle.ecigar.specs.Table90.{Operation, counted, print, printed}
+use Rattle.ecigar.specs.Table90.{Operation, counted, print, printAll}
 
 -- ---- a count and its sign
 
@@ -14,14 +14,14 @@ length-counted n sign = rw length-append
 
 -- ---- operations, one printed behind the other
 
-pub printed-append : (xs ys : List Operation) → printed (xs ++ ys) ≡ printed xs ++ printed ys
-unfolding printed
+pub printed-append : (xs ys : List Operation) → printAll (xs ++ ys) ≡ printAll xs ++ printAll ys
+unfolding printAll
 printed-append [] ys = refl
 printed-append (x ∷ xs) ys = rw (printed-append xs ys, append-assoc)
 
-pub printed-one : (o : Operation) → printed (o ∷ []) ≡ print o
-unfolding printed
+pub printed-one : (o : Operation) → printAll (o ∷ []) ≡ print o
+unfolding printAll
 printed-one o = append-nil (print o)
 
-pub length-printed : (xs ys : List Operation) → length (printed (xs ++ ys)) ≡ length (printed xs) + length (printed ys)
+pub length-printed : (xs ys : List Operation) → length (printAll (xs ++ ys)) ≡ length (printAll xs) + length (printAll ys)
 length-printed xs ys = rw (printed-append xs ys, length-append)

@@ -7,14 +7,14 @@ use Rattle.refusal.specs.Numbers.{fine, Early, FineOrEarly}
 use Rattle.refusal.proofs.RefusalLaws.{by-number}
 use Rattle.frame.proofs.Tests.{one-of}
 use Rattle.alphabet.specs.Table35.{sizeOf}
-use Rattle.block.specs.Segment.{mostRead, mostEdits}
-use Rattle.block.specs.Edits.{widthOf, editAt, nextOffset, editRefusal}
-use Rattle.block.proofs.RefusalLaws.{edit-early}
+use Rattle.edits.specs.Lengths.{mostRead, mostEdits}
+use Rattle.edits.specs.Edits.{widthOf, editAt, nextOffset, editRefusal}
+use Rattle.edits.proofs.RefusalLaws.{edit-early}
 use Rattle.ecigar.specs.Check.{endsWithin, editsRefusal, answered, editsChecked, checkOf}
-use Rattle.ecigar.specs.declared.check.Checked.{Checked}
-use Rattle.ecigar.specs.declared.check.Checked.the-variants.{Fine, Refused}
+use Rattle.ecigar.specs.declared.check.EditsChecked.{EditsChecked}
+use Rattle.ecigar.specs.declared.check.EditsChecked.the-variants.{Fine, Refused}
 
-abbrev pub EarlyEdits : Checked → Type 0
+abbrev pub EarlyEdits : EditsChecked → Type 0
 EarlyEdits (Fine taken text) = Unit
 EarlyEdits (Refused n) = Early n
 

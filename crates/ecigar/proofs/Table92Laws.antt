@@ -13,14 +13,14 @@ use Rattle.frame.proofs.HexLaws.{by-test}
 use Rattle.unit.specs.Unit.{classP, classN, classM, classI, classHM}
 use Rattle.alphabet.specs.Table35.{letterN, letterOf, codeOfN, sizeOf}
 use Rattle.alphabet.proofs.AlphabetLaws.{letter-of-n}
-use Rattle.block.specs.Edits.{substitution, widthOf, editAt, editsAt, Sound}
-use Rattle.block.specs.Segment.{noClips, mappedLength}
-use Rattle.block.specs.declared.edit.Edit.{Edit}
-use Rattle.block.specs.declared.Segment.{Segment}
-use Rattle.block.proofs.EditLaws.{length-edits, edits-none}
+use Rattle.edits.specs.Edits.{substitution, widthOf, editAt, editsAt, Sound}
+use Rattle.edits.specs.Lengths.{noClips, mappedLength}
+use Rattle.edits.specs.declared.edit.Edit.{Edit}
+use Rattle.edits.specs.declared.Block.{Block}
+use Rattle.edits.proofs.EditLaws.{length-edits, edits-none}
 use Rattle.alphabet.proofs.AlphabetLaws.{letter-of-n}
-use Rattle.ecigar.specs.Table90.{printed}
-use Rattle.ecigar.specs.Ecigar.{setOut, ecigarOf, clip, leftClip, rightClip, segmentEdits, ecigarText, offsetsOf, lettersIn, typesOf, Aligned}
+use Rattle.ecigar.specs.Table90.{printAll}
+use Rattle.ecigar.specs.Ecigar.{setOut, ecigarOf, clip, leftClip, rightClip, blockEdits, ecigarText, offsetsOf, lettersIn, typesOf, OfItsClass}
 use Rattle.ecigar.specs.Table93.{item, decodeECigarMismatches}
 use Rattle.ecigar.specs.Table92.{leftClipped, rightClipped, ecigarString}
 use Rattle.ecigar.proofs.WalkLaws.{matches-some, clip-soft, clip-hard, clip-none}
@@ -95,7 +95,7 @@ module _ (class alphabet : ℕ) (frame : List ℕ) (len k at : ℕ) where
 
 -- ---- the clips
 
-left-text : (soft hard : ℕ) (softClips ecigar : List ℕ) → length softClips ≡ soft → leftClipped softClips hard ecigar ≡ printed (clip soft hard) ++ ecigar
+left-text : (soft hard : ℕ) (softClips ecigar : List ℕ) → length softClips ≡ soft → leftClipped softClips hard ecigar ≡ printAll (clip soft hard) ++ ecigar
 unfolding leftClipped
 left-text soft hard softClips ecigar q =
     rw q
@@ -105,7 +105,7 @@ left-text soft hard softClips ecigar q =
     (λ b. simp (a, b, clip-hard soft hard (eqb-true _ _ a) (eqb-false _ _ b))))
     (λ a. simp (a, clip-soft soft hard (eqb-false _ _ a))))
 
-right-text : (soft hard : ℕ) (softClips ecigar : List ℕ) → length softClips ≡ soft → rightClipped softClips hard ecigar ≡ ecigar ++ printed (clip soft hard)
+right-text : (soft hard : ℕ) (softClips ecigar : List ℕ) → length softClips ≡ soft → rightClipped softClips hard ecigar ≡ ecigar ++ printAll (clip soft hard)
 unfolding rightClipped
 right-text soft hard softClips ecigar q =
     rw q
@@ -116,7 +116,7 @@ right-text soft hard softClips ecigar q =
     (λ a. simp (a, clip-soft soft hard (eqb-false _ _ a), append-assoc)))
 
 -- a segment without clips
-bare-text : (class alphabet : ℕ) (frame : List ℕ) (s : Segment) → s .clips ≡ noClips → ecigarText class alphabet frame s ≡ ecigarOf alphabet (s .length) (segmentEdits class alphabet frame s)
+bare-text : (class alphabet : ℕ) (frame : List ℕ) (s : Block) → s .clips ≡ noClips → ecigarText class alphabet frame s ≡ ecigarOf alphabet (s .length) (blockEdits class alphabet frame s)
 bare-text class alphabet frame s h = text-parts class alphabet frame s ∙ rw (h, clip-none 0 0 refl refl, sub-zero) (append-nil _)
 
 -- ---- the whole
@@ -124,12 +124,12 @@ bare-text class alphabet frame s h = text-parts class alphabet frame s ∙ rw (h
 -- For every segment whose edits are accepted, in class P, N, M, I or HM, the text is Table 92's.
 -- leftSoftClips and rightSoftClips are the clipped bases, of which only the number counts.
 -- Every aligned segment that is read is one: `listed-is-table92` (segment, proofs/StandardLaws).
-pub ecigar-is-table92 : (class alphabet : ℕ) (frame : List ℕ) (s : Segment) (leftSoftClips rightSoftClips : List ℕ)
-    → Aligned class s
-    → Sound (mappedLength (s .length) (s .clips)) (sizeOf alphabet) 0 (segmentEdits class alphabet frame s)
+pub ecigar-is-table92 : (class alphabet : ℕ) (frame : List ℕ) (s : Block) (leftSoftClips rightSoftClips : List ℕ)
+    → OfItsClass class s
+    → Sound (mappedLength (s .length) (s .clips)) (sizeOf alphabet) 0 (blockEdits class alphabet frame s)
     → length leftSoftClips ≡ s .clips .«left_soft» → length rightSoftClips ≡ s .clips .«right_soft»
     → ecigarText class alphabet frame s
-    ≡ ecigarString class (s .length) (s .edits) (offsetsOf (segmentEdits class alphabet frame s)) (lettersIn alphabet (segmentEdits class alphabet frame s)) (typesOf (segmentEdits class alphabet frame s))
+    ≡ ecigarString class (s .length) (s .edits) (offsetsOf (blockEdits class alphabet frame s)) (lettersIn alphabet (blockEdits class alphabet frame s)) (typesOf (blockEdits class alphabet frame s))
     leftSoftClips rightSoftClips (s .clips .«left_hard») (s .clips .«right_hard»)
 unfolding ecigarString
 ecigar-is-table92 class alphabet frame s leftSoftClips rightSoftClips a sound l r =
@@ -158,5 +158,5 @@ ecigar-is-table92 class alphabet frame s leftSoftClips rightSoftClips a sound l 
     (text-parts class alphabet frame s
     ∙ sym
     (right-text (c .«right_soft») (c .«right_hard») rightSoftClips _ r
-    ∙ ap (λ (x : List ℕ). x ++ printed (rightClip c)) (left-text (c .«left_soft») (c .«left_hard») leftSoftClips _ l
-    ∙ ap (λ (x : List ℕ). printed (leftClip c) ++ x) (table93-i class alphabet frame (mappedLength (s .length) c) (s .edits) (s .«edits_at») sound i (a .last))))))))
+    ∙ ap (λ (x : List ℕ). x ++ printAll (rightClip c)) (left-text (c .«left_soft») (c .«left_hard») leftSoftClips _ l
+    ∙ ap (λ (x : List ℕ). printAll (leftClip c) ++ x) (table93-i class alphabet frame (mappedLength (s .length) c) (s .edits) (s .«edits_at») sound i (a .last))))))))

@@ -13,11 +13,11 @@ use lib.Seq.{drop-drop}
 use Rattle.writing.specs.Decimal.{decimal}
 use Rattle.frame.proofs.HexLaws.{by-test}
 use Rattle.alphabet.specs.Table35.{letterOf}
-use Rattle.block.specs.Edits.{substitution, insertion, deletion, nextOffset, Sound}
-use Rattle.block.specs.declared.edit.Edit.{Edit}
-use Rattle.block.proofs.EditLaws.{Accepted, accepted, sound-tail, next-deletion, next-other, sound-accepted}
+use Rattle.edits.specs.Edits.{substitution, insertion, deletion, nextOffset, Sound}
+use Rattle.edits.specs.declared.edit.Edit.{Edit}
+use Rattle.edits.proofs.EditLaws.{EditAccepted, accepted, sound-tail, next-deletion, next-other, sound-accepted}
 use Rattle.ecigar.specs.declared.walk.Walk.{Walk}
-use Rattle.ecigar.specs.Table90.{counted, equalsSign, plusSign, minusSign, printed}
+use Rattle.ecigar.specs.Table90.{counted, equalsSign, plusSign, minusSign, printAll}
 use Rattle.ecigar.specs.Ecigar.{setOut, joinsRun, past, matches, openRun, gap, mark, operationsFrom, offsetsOf, lettersIn, typesOf}
 use Rattle.ecigar.specs.Table93.{item, withMatch, mismatchLoop, Run, insertionLoop, deletionLoop, indelLoop}
 use Rattle.ecigar.proofs.PrintLaws.{printed-append}
@@ -50,7 +50,7 @@ module _ (es : List Edit) (i : ℕ) where
 
 -- ---- the match, where there is one
 
-with-match : (text : List ℕ) (n : ℕ) → withMatch text n ≡ text ++ printed (matches n)
+with-match : (text : List ℕ) (n : ℕ) → withMatch text n ≡ text ++ printAll (matches n)
 unfolding withMatch
 with-match text n =
     by-test (eqb n 0)
@@ -63,23 +63,23 @@ with-match text n =
 abbrev plain : ℕ → Walk
 plain next = record { next = next; kind = substitution; run = 0 }
 
-closed-plain : (w : Walk) → w .kind ≡ substitution → printed (openRun w) ≡ []
+closed-plain : (w : Walk) → w .kind ≡ substitution → printAll (openRun w) ≡ []
 closed-plain w h = closed-none w (λ z. omega arith) (λ z. omega arith)
 
 apart-plain : (w : Walk) (e : Edit) → w .kind ≡ substitution → joinsRun w e ≡ false
 apart-plain w e h =
     by-test (eqb (e .kind) substitution) (λ t. apart-letter w e (eqb-true _ _ t)) (λ t. joins-not w e (λ k z. eqb-false _ _ t (k ∙ h)))
 
-gap-plain : (w : Walk) (e : Edit) → w .kind ≡ substitution → printed (gap w e) ≡ printed (matches (e .offset - w .next))
+gap-plain : (w : Walk) (e : Edit) → w .kind ≡ substitution → printAll (gap w e) ≡ printAll (matches (e .offset - w .next))
 gap-plain w e h = rw (gap-apart w e (apart-plain w e h), closed-plain w h)
 
 module _ (alphabet len : ℕ) where
-  pub end-plain : (w : Walk) → w .kind ≡ substitution → printed (operationsFrom alphabet len w []) ≡ printed (matches (len - w .next))
+  pub end-plain : (w : Walk) → w .kind ≡ substitution → printAll (operationsFrom alphabet len w []) ≡ printAll (matches (len - w .next))
   end-plain w h = text-end alphabet len w ∙ rw (ending-both len w, closed-plain w h)
 
   -- an edit that joins no run: the run is openRun first
   shut-on : (w : Walk) (e : Edit) (rest : List Edit) → joinsRun w e ≡ false
-      → printed (operationsFrom alphabet len w (e ∷ rest)) ≡ printed (openRun w) ++ printed (operationsFrom alphabet len (plain (w .next)) (e ∷ rest))
+      → printAll (operationsFrom alphabet len w (e ∷ rest)) ≡ printAll (openRun w) ++ printAll (operationsFrom alphabet len (plain (w .next)) (e ∷ rest))
   unfolding past
   shut-on w e rest h =
       let g = apart-plain (plain (w .next)) e refl in
@@ -87,7 +87,7 @@ module _ (alphabet len : ℕ) where
       ∙ rw (printed-append (gap w e) (mark alphabet e), gap-apart w e h, text-on alphabet len (plain (w .next)) e rest, printed-append (gap (plain (w .next)) e) (mark alphabet e), gap-plain (plain (w .next)) e refl, h, g)
       (simp append-assoc)
 
-  shut-end : (w : Walk) → printed (operationsFrom alphabet len w []) ≡ printed (openRun w) ++ printed (operationsFrom alphabet len (plain (w .next)) [])
+  shut-end : (w : Walk) → printAll (operationsFrom alphabet len w []) ≡ printAll (openRun w) ++ printAll (operationsFrom alphabet len (plain (w .next)) [])
   shut-end w = text-end alphabet len w ∙ rw (ending-both len w, end-plain (plain (w .next)) refl)
 
 -- ---- the inner loops, which differ in the type, and in what they add to the offset
@@ -146,7 +146,7 @@ module _ (kind more : ℕ) (es : List Edit) where
 record Indel (type more sign : ℕ) : Type 0 where
   pub apart : type ≡ substitution → ⊥
   pub after : (e : Edit) → e .kind ≡ type → nextOffset e ≡ e .offset + more
-  pub ends : (w : Walk) → w .kind ≡ type → printed (openRun w) ≡ counted (w .run) sign
+  pub ends : (w : Walk) → w .kind ≡ type → printAll (openRun w) ≡ counted (w .run) sign
 
 indel-insertion : Indel insertion 1 plusSign
 indel-insertion = record { apart = λ z. omega arith; after = λ e h. next-other e (λ z. omega arith); ends = closed-insertion }
@@ -162,7 +162,7 @@ module _ (alphabet len symbols : ℕ) (es : List Edit) where
 
   -- what the walk still writes
   abbrev still : Walk → List Edit → List ℕ
-  still w rest = printed (operationsFrom alphabet len w rest)
+  still w rest = printAll (operationsFrom alphabet len w rest)
 
   -- the outer loop, from its test on, where no run is open
   abbrev Outer : List Edit → Type 0
@@ -186,12 +186,12 @@ module _ (alphabet len symbols : ℕ) (es : List Edit) where
 
   -- an edit where no run is open
   plain-on : (w : Walk) (e : Edit) (rest : List Edit) → w .kind ≡ substitution
-      → still w (e ∷ rest) ≡ printed (matches (e .offset - w .next)) ++ (printed (mark alphabet e) ++ still (past w e) rest)
+      → still w (e ∷ rest) ≡ printAll (matches (e .offset - w .next)) ++ (printAll (mark alphabet e) ++ still (past w e) rest)
   plain-on w e rest h =
       text-on alphabet len w e rest
-      ∙ rw (printed-append (gap w e) (mark alphabet e), gap-plain w e h) (append-assoc (printed (matches (e .offset - w .next))) (printed (mark alphabet e)) (still (past w e) rest))
+      ∙ rw (printed-append (gap w e) (mark alphabet e), gap-plain w e h) (append-assoc (printAll (matches (e .offset - w .next))) (printAll (mark alphabet e)) (still (past w e) rest))
 
-  order : (next : ℕ) (e : Edit) (rest : List Edit) → Sound len symbols next (e ∷ rest) → Accepted len symbols next e
+  order : (next : ℕ) (e : Edit) (rest : List Edit) → Sound len symbols next (e ∷ rest) → EditAccepted len symbols next e
   order next e rest s = sound-accepted len symbols next e rest s
 
   module _ (type more sign : ℕ) (known : Indel type more sign) where
@@ -243,7 +243,7 @@ module _ (alphabet len symbols : ℕ) (es : List Edit) where
         ≡ text ++ still w (e ∷ rest)
     run-first e rest again left i w text q h k s a =
         let n = known .after e a in
-        let m = printed (matches (e .offset - w .next)) in
+        let m = printAll (matches (e .offset - w .next)) in
         rw (loop-on type more es (length es) i (e .offset) 0 e rest q (omega (arith, here-below es i e rest q)) a (sub-self (e .offset)))
         (again left (length es - 1) (i + 1) (e .offset + more) 1 (withMatch text (e .offset - w .next)) (here-next es i e rest q) (omega arith) (omega (arith, rest-le es i (e ∷ rest) q)) (rw n at (sound-tail len symbols (w .next) e rest s))
         ∙ rw (with-match text (e .offset - w .next), plain-on w e rest k, mark-none alphabet e (λ z. known .apart (sym a ∙ z)), past-apart w e (apart-plain w e k), n, a)
@@ -258,7 +258,7 @@ module _ (alphabet len symbols : ℕ) (es : List Edit) where
       (λ a.
       let z = eqb-true (e .kind) substitution a in
       let p : past w e .next ≡ e .offset + 1 = past-next w e refl ∙ next-other e (λ y. omega arith) in
-      let m = printed (matches (e .offset - w .next)) in
+      let m = printAll (matches (e .offset - w .next)) in
       let b = letterOf alphabet (e .symbol) in
       rw (a, ← p)
       (out left (i + 1) (past w e) (withMatch text (e .offset - w .next) ++ b ∷ []) (here-next es i e rest q) (omega arith) (past-kind w e refl ∙ z)
@@ -309,7 +309,7 @@ pub data Each (P : Edit → Type 0) : List Edit → Type 0 where
 module _ (alphabet len symbols : ℕ) (character : ℕ → ℕ) (P : Edit → Type 0) (letters : (e : Edit) → P e → e .kind ≡ substitution) (es : List Edit)
     (written : (i : ℕ) (e : Edit) (rest : List Edit) → drop i es ≡ e ∷ rest → P e → character i ≡ letterOf alphabet (e .symbol)) where
   mismatch-on : (rest : List Edit) → Each P rest → (left i : ℕ) (w : Walk) (text : List ℕ) → drop i es ≡ rest → length rest ≤ left → w .kind ≡ substitution → Sound len symbols (w .next) rest
-      → mismatchLoop character len (length es) (offsetsOf es) left i (w .next) text ≡ text ++ printed (operationsFrom alphabet len w rest)
+      → mismatchLoop character len (length es) (offsetsOf es) left i (w .next) text ≡ text ++ printAll (operationsFrom alphabet len w rest)
   unfolding mismatchLoop
   mismatch-on [] a zero i w text q h k s = rw (end-plain alphabet len w k) (with-match text (len - w .next))
   mismatch-on [] a (suc left) i w text q h k s = rw (le-ltb i (length es) (end-past es i q), end-plain alphabet len w k) (with-match text (len - w .next))
@@ -318,7 +318,7 @@ module _ (alphabet len symbols : ℕ) (character : ℕ → ℕ) (P : Edit → Ty
       let z = letters e p in
       let n : past w e .next ≡ e .offset + 1 = past-next w e refl ∙ next-other e (λ y. omega arith) in
       let b = letterOf alphabet (e .symbol) in
-      let go : (now : List ℕ) → mismatchLoop character len (length es) (offsetsOf es) left (i + 1) (past w e .next) now ≡ now ++ printed (operationsFrom alphabet len (past w e) rest) =
+      let go : (now : List ℕ) → mismatchLoop character len (length es) (offsetsOf es) left (i + 1) (past w e .next) now ≡ now ++ printAll (operationsFrom alphabet len (past w e) rest) =
       λ now. mismatch-on rest a left (i + 1) (past w e) now (here-next es i e rest q) (omega arith) (past-kind w e refl ∙ z) (rw (past-next w e refl) (sound-tail len symbols (w .next) e rest s)) in
       rw (lt-ltb i (length es) (here-below es i e rest q), item-here (λ (x : Edit). x .offset) es i e rest q, written i e rest q p, ← n)
       (by-test (eqb (e .offset - w .next) 0)
@@ -331,5 +331,5 @@ module _ (alphabet len symbols : ℕ) (character : ℕ → ℕ) (P : Edit → Ty
       (go (text ++ decimal (e .offset - w .next) ++ equalsSign ∷ [] ++ b ∷ [])
       ∙ rw (plain-on alphabet len symbols es w e rest k, mark-letter alphabet e z, matches-some (e .offset - w .next) (eqb-false _ _ d)) (simp append-assoc))))
 
-  pub mismatch-text : Each P es → Sound len symbols 0 es → mismatchLoop character len (length es) (offsetsOf es) (length es) 0 0 [] ≡ printed (operationsFrom alphabet len setOut es)
+  pub mismatch-text : Each P es → Sound len symbols 0 es → mismatchLoop character len (length es) (offsetsOf es) (length es) 0 0 [] ≡ printAll (operationsFrom alphabet len setOut es)
   mismatch-text a s = mismatch-on es a (length es) 0 setOut [] refl (omega arith) refl s

@@ -7,16 +7,16 @@ use native.Mathlib.Omega.{arith}
 use lib.ListN.{length, length-append}
 use Rattle.writing.proofs.LayLaws.{Rest, rest-room}
 use Rattle.alphabet.specs.Table35.{sizeOf}
-use Rattle.block.specs.Edits.{widthOf, editAt, editsAt, Sound}
-use Rattle.block.specs.Segment.{mostEdits, mappedLength}
-use Rattle.block.specs.declared.edit.Edit.{Edit}
-use Rattle.block.specs.declared.Segment.{Segment}
-use Rattle.block.proofs.EditLaws.{accepted, edits-none, list-on}
+use Rattle.edits.specs.Edits.{widthOf, editAt, editsAt, Sound}
+use Rattle.edits.specs.Lengths.{mostEdits, mappedLength}
+use Rattle.edits.specs.declared.edit.Edit.{Edit}
+use Rattle.edits.specs.declared.Block.{Block}
+use Rattle.edits.proofs.EditLaws.{accepted, edits-none, list-on}
 use Rattle.ecigar.specs.declared.walk.Walk.{Walk}
-use Rattle.ecigar.specs.Table90.{printed}
-use Rattle.ecigar.specs.Ecigar.{past, gap, mark, ending, operationsFrom, operationsOf, ecigarOf, clipsLength, leftClip, rightClip, segmentEdits, segmentOperations, ecigarText}
+use Rattle.ecigar.specs.Table90.{printAll}
+use Rattle.ecigar.specs.Ecigar.{past, gap, mark, ending, operationsFrom, operationsOf, ecigarOf, clipsLength, leftClip, rightClip, blockEdits, blockOperations, ecigarText}
 use Rattle.ecigar.specs.Check.{checkOf}
-use Rattle.ecigar.specs.declared.check.Checked.the-variants.{Fine}
+use Rattle.ecigar.specs.declared.check.EditsChecked.the-variants.{Fine}
 use Rattle.ecigar.proofs.PrintLaws.{printed-append}
 use Rattle.ecigar.proofs.CheckLaws.{checked-fine}
 use Rattle.ecigar.proofs.WalkLaws.{text-on, text-end}
@@ -24,17 +24,17 @@ use Rattle.ecigar.proofs.WalkLaws.{text-on, text-end}
 -- ---- a turn of the loop
 
 module _ (class alphabet : ℕ) (frame : List ℕ) (mapped k at step : ℕ) (e : Edit) (wide : step ≡ widthOf class) (it : e ≡ editAt class alphabet frame at) (more : 0 < k) where
-  pub ecigar-on : (w : Walk) → printed (operationsFrom alphabet mapped w (editsAt class alphabet frame k at))
-      ≡ printed (gap w e ++ mark alphabet e) ++ printed (operationsFrom alphabet mapped (past w e) (editsAt class alphabet frame (k - 1) (at + step)))
+  pub ecigar-on : (w : Walk) → printAll (operationsFrom alphabet mapped w (editsAt class alphabet frame k at))
+      ≡ printAll (gap w e ++ mark alphabet e) ++ printAll (operationsFrom alphabet mapped (past w e) (editsAt class alphabet frame (k - 1) (at + step)))
   ecigar-on w = rw (list-on class alphabet frame mapped k at step e wide it more) (text-on alphabet mapped w e (editsAt class alphabet frame (k - 1) (at + step)))
 
-  pub room-on : {l l₀ xs₀ : List ℕ} {p p₀ : ℕ} (w : Walk) → Rest l p (printed (operationsFrom alphabet mapped w (editsAt class alphabet frame k at))) l₀ p₀ xs₀
-      → p₀ + 2 * length xs₀ ≤ length l₀ → p + 2 * length (printed (gap w e ++ mark alphabet e)) ≤ length l
+  pub room-on : {l l₀ xs₀ : List ℕ} {p p₀ : ℕ} (w : Walk) → Rest l p (printAll (operationsFrom alphabet mapped w (editsAt class alphabet frame k at))) l₀ p₀ xs₀
+      → p₀ + 2 * length xs₀ ≤ length l₀ → p + 2 * length (printAll (gap w e ++ mark alphabet e)) ≤ length l
   room-on w r b =
-      rest-room (printed (gap w e ++ mark alphabet e)) (printed (operationsFrom alphabet mapped (past w e) (editsAt class alphabet frame (k - 1) (at + step)))) r (ecigar-on w) b
+      rest-room (printAll (gap w e ++ mark alphabet e)) (printAll (operationsFrom alphabet mapped (past w e) (editsAt class alphabet frame (k - 1) (at + step)))) r (ecigar-on w) b
 
 pub ecigar-end : (class alphabet : ℕ) (frame : List ℕ) (mapped k at : ℕ) (w : Walk) → k ≤ 0
-    → printed (operationsFrom alphabet mapped w (editsAt class alphabet frame k at)) ≡ printed (ending mapped w)
+    → printAll (operationsFrom alphabet mapped w (editsAt class alphabet frame k at)) ≡ printAll (ending mapped w)
 ecigar-end class alphabet frame mapped k at w h = rw (edits-none class alphabet frame k at h) (text-end alphabet mapped w)
 
 -- what holds before each turn, when k of n edits are left
@@ -43,24 +43,24 @@ pub record Writing (class alphabet : ℕ) (frame : List ℕ) (mapped n k at : �
   pub run : w .run + k ≤ n
   pub framed : at + k * widthOf class ≤ length frame
   pub sound : Sound mapped (sizeOf alphabet) (w .next) (editsAt class alphabet frame k at)
-  pub rest : Rest l p (printed (operationsFrom alphabet mapped w (editsAt class alphabet frame k at))) l₀ p₀ whole
+  pub rest : Rest l p (printAll (operationsFrom alphabet mapped w (editsAt class alphabet frame k at))) l₀ p₀ whole
 
 -- ---- the whole text
 
-pub text-parts : (class alphabet : ℕ) (frame : List ℕ) (s : Segment) → ecigarText class alphabet frame s
-    ≡ printed (leftClip (s .clips)) ++ ecigarOf alphabet (mappedLength (s .length) (s .clips)) (segmentEdits class alphabet frame s) ++ printed (rightClip (s .clips))
-unfolding ecigarText segmentOperations ecigarOf
+pub text-parts : (class alphabet : ℕ) (frame : List ℕ) (s : Block) → ecigarText class alphabet frame s
+    ≡ printAll (leftClip (s .clips)) ++ ecigarOf alphabet (mappedLength (s .length) (s .clips)) (blockEdits class alphabet frame s) ++ printAll (rightClip (s .clips))
+unfolding ecigarText blockOperations ecigarOf
 text-parts class alphabet frame s =
-    let es = operationsOf alphabet (mappedLength (s .length) (s .clips)) (segmentEdits class alphabet frame s) in
+    let es = operationsOf alphabet (mappedLength (s .length) (s .clips)) (blockEdits class alphabet frame s) in
     rw (printed-append (leftClip (s .clips) ++ es) (rightClip (s .clips)), printed-append (leftClip (s .clips)) es)
 
-pub length-text : (class alphabet : ℕ) (frame : List ℕ) (s : Segment) → length (ecigarText class alphabet frame s)
-    ≡ length (printed (leftClip (s .clips))) + length (ecigarOf alphabet (mappedLength (s .length) (s .clips)) (segmentEdits class alphabet frame s)) + length (printed (rightClip (s .clips)))
+pub length-text : (class alphabet : ℕ) (frame : List ℕ) (s : Block) → length (ecigarText class alphabet frame s)
+    ≡ length (printAll (leftClip (s .clips))) + length (ecigarOf alphabet (mappedLength (s .length) (s .clips)) (blockEdits class alphabet frame s)) + length (printAll (rightClip (s .clips)))
 length-text class alphabet frame s = rw (text-parts class alphabet frame s, length-append, length-append)
 
 -- ---- from the check to the writer
 
-module _ (class alphabet : ℕ) (frame : List ℕ) (s : Segment) (taken text : ℕ)
+module _ (class alphabet : ℕ) (frame : List ℕ) (s : Block) (taken text : ℕ)
     (checked : checkOf class alphabet frame (s .«edits_at») (s .edits) (mappedLength (s .length) (s .clips)) ≡ Fine taken text) where
   -- the length that `check` and `clips_len` answer together is the text's
   pub checked-length : length (ecigarText class alphabet frame s) ≡ text + clipsLength (s .clips)

@@ -11,89 +11,89 @@ use lib.Dec.{eqb}
 use lib.ListN.{length, length-append}
 use Rattle.frame.proofs.HexLaws.{by-test, false-true}
 use Rattle.alphabet.specs.Table35.{letterOf}
-use Rattle.block.specs.Edits.{substitution, insertion, deletion, nextOffset}
-use Rattle.block.specs.declared.edit.Edit.{Edit}
-use Rattle.block.proofs.EditLaws.{next-least, next-other}
+use Rattle.edits.specs.Edits.{substitution, insertion, deletion, nextOffset}
+use Rattle.edits.specs.declared.edit.Edit.{Edit}
+use Rattle.edits.proofs.EditLaws.{next-least, next-other}
 use Rattle.ecigar.specs.declared.walk.Walk.{Walk}
-use Rattle.ecigar.specs.Table90.{matched, substituted, inserted, deleted, softClipped, hardClipped, counted, equalsSign, plusSign, minusSign, roundOpen, roundClose, squareOpen, squareClose, printed}
+use Rattle.ecigar.specs.Table90.{matched, substituted, inserted, deleted, softClipped, hardClipped, counted, equalsSign, plusSign, minusSign, roundOpen, roundClose, squareOpen, squareClose, printAll}
 use Rattle.ecigar.specs.Ecigar.{joinsRun, past, matches, openRun, gap, mark, ending, clip, operationsFrom}
 use Rattle.ecigar.proofs.PrintLaws.{length-counted, printed-append, printed-one}
 use Rattle.writing.proofs.DecimalLaws.{digits-most}
 
 -- ---- a match
 
-pub matches-none : (n : ℕ) → n ≡ 0 → printed (matches n) ≡ []
-unfolding matches printed
+pub matches-none : (n : ℕ) → n ≡ 0 → printAll (matches n) ≡ []
+unfolding matches printAll
 matches-none n h = simp (eq-eqb _ _ h)
 
-pub matches-some : (n : ℕ) → (n ≡ 0 → ⊥) → printed (matches n) ≡ counted n equalsSign
+pub matches-some : (n : ℕ) → (n ≡ 0 → ⊥) → printAll (matches n) ≡ counted n equalsSign
 unfolding matches
 matches-some n h = rw (ne-eqb _ _ h) (printed-one (matched n))
 
 -- ---- the run that is open
 
-pub closed-insertion : (w : Walk) → w .kind ≡ insertion → printed (openRun w) ≡ counted (w .run) plusSign
+pub closed-insertion : (w : Walk) → w .kind ≡ insertion → printAll (openRun w) ≡ counted (w .run) plusSign
 unfolding openRun
 closed-insertion w h = rw (eq-eqb _ _ h) (printed-one (inserted (w .run)))
 
-pub closed-deletion : (w : Walk) → (w .kind ≡ insertion → ⊥) → w .kind ≡ deletion → printed (openRun w) ≡ counted (w .run) minusSign
+pub closed-deletion : (w : Walk) → (w .kind ≡ insertion → ⊥) → w .kind ≡ deletion → printAll (openRun w) ≡ counted (w .run) minusSign
 unfolding openRun
 closed-deletion w g h = rw (ne-eqb _ _ g, eq-eqb _ _ h) (printed-one (deleted (w .run)))
 
-pub closed-none : (w : Walk) → (w .kind ≡ insertion → ⊥) → (w .kind ≡ deletion → ⊥) → printed (openRun w) ≡ []
-unfolding openRun printed
+pub closed-none : (w : Walk) → (w .kind ≡ insertion → ⊥) → (w .kind ≡ deletion → ⊥) → printAll (openRun w) ≡ []
+unfolding openRun printAll
 closed-none w g h = simp (ne-eqb _ _ g, ne-eqb _ _ h)
 
 -- ---- before an edit, its letter, and behind the last
 
-pub gap-joined : (w : Walk) (e : Edit) → joinsRun w e ≡ true → printed (gap w e) ≡ []
-unfolding gap printed
+pub gap-joined : (w : Walk) (e : Edit) → joinsRun w e ≡ true → printAll (gap w e) ≡ []
+unfolding gap printAll
 gap-joined w e h = simp h
 
-pub gap-apart : (w : Walk) (e : Edit) → joinsRun w e ≡ false → printed (gap w e) ≡ printed (openRun w) ++ printed (matches (e .offset - w .next))
+pub gap-apart : (w : Walk) (e : Edit) → joinsRun w e ≡ false → printAll (gap w e) ≡ printAll (openRun w) ++ printAll (matches (e .offset - w .next))
 unfolding gap
 gap-apart w e h = rw h (printed-append (openRun w) (matches (e .offset - w .next)))
 
-pub mark-letter : (alphabet : ℕ) (e : Edit) → e .kind ≡ substitution → printed (mark alphabet e) ≡ letterOf alphabet (e .symbol) ∷ []
+pub mark-letter : (alphabet : ℕ) (e : Edit) → e .kind ≡ substitution → printAll (mark alphabet e) ≡ letterOf alphabet (e .symbol) ∷ []
 unfolding mark
 mark-letter alphabet e h = rw (eq-eqb _ _ h) (printed-one (substituted (letterOf alphabet (e .symbol))))
 
-pub mark-none : (alphabet : ℕ) (e : Edit) → (e .kind ≡ substitution → ⊥) → printed (mark alphabet e) ≡ []
-unfolding mark printed
+pub mark-none : (alphabet : ℕ) (e : Edit) → (e .kind ≡ substitution → ⊥) → printAll (mark alphabet e) ≡ []
+unfolding mark printAll
 mark-none alphabet e h = simp (ne-eqb _ _ h)
 
-pub length-mark : (alphabet : ℕ) (e : Edit) → length (printed (mark alphabet e)) ≡ cond (eqb (e .kind) substitution) 1 0
+pub length-mark : (alphabet : ℕ) (e : Edit) → length (printAll (mark alphabet e)) ≡ cond (eqb (e .kind) substitution) 1 0
 length-mark alphabet e =
     by-test (eqb (e .kind) substitution)
     (λ h. rw (h, mark-letter alphabet e (eqb-true _ _ h)))
     (λ h. rw (h, mark-none alphabet e (eqb-false _ _ h)))
 
-pub ending-both : (mapped : ℕ) (w : Walk) → printed (ending mapped w) ≡ printed (openRun w) ++ printed (matches (mapped - w .next))
+pub ending-both : (mapped : ℕ) (w : Walk) → printAll (ending mapped w) ≡ printAll (openRun w) ++ printAll (matches (mapped - w .next))
 unfolding ending
 ending-both mapped w = printed-append (openRun w) (matches (mapped - w .next))
 
 -- ---- the clip of one side
 
-pub clip-soft : (soft hard : ℕ) → (soft ≡ 0 → ⊥) → printed (clip soft hard) ≡ roundOpen ∷ counted soft roundClose
+pub clip-soft : (soft hard : ℕ) → (soft ≡ 0 → ⊥) → printAll (clip soft hard) ≡ roundOpen ∷ counted soft roundClose
 unfolding clip
 clip-soft soft hard h = rw (ne-eqb _ _ h) (printed-one (softClipped soft))
 
-pub clip-hard : (soft hard : ℕ) → soft ≡ 0 → (hard ≡ 0 → ⊥) → printed (clip soft hard) ≡ squareOpen ∷ counted hard squareClose
+pub clip-hard : (soft hard : ℕ) → soft ≡ 0 → (hard ≡ 0 → ⊥) → printAll (clip soft hard) ≡ squareOpen ∷ counted hard squareClose
 unfolding clip
 clip-hard soft hard g h = rw (eq-eqb _ _ g, ne-eqb _ _ h) (printed-one (hardClipped hard))
 
-pub clip-none : (soft hard : ℕ) → soft ≡ 0 → hard ≡ 0 → printed (clip soft hard) ≡ []
-unfolding clip printed
+pub clip-none : (soft hard : ℕ) → soft ≡ 0 → hard ≡ 0 → printAll (clip soft hard) ≡ []
+unfolding clip printAll
 clip-none soft hard g h = simp (eq-eqb _ _ g, eq-eqb _ _ h)
 
 -- ---- the text from a place of the walk on
 
 pub text-on : (alphabet mapped : ℕ) (w : Walk) (e : Edit) (es : List Edit)
-    → printed (operationsFrom alphabet mapped w (e ∷ es)) ≡ printed (gap w e ++ mark alphabet e) ++ printed (operationsFrom alphabet mapped (past w e) es)
+    → printAll (operationsFrom alphabet mapped w (e ∷ es)) ≡ printAll (gap w e ++ mark alphabet e) ++ printAll (operationsFrom alphabet mapped (past w e) es)
 unfolding operationsFrom
 text-on alphabet mapped w e es = printed-append (gap w e ++ mark alphabet e) (operationsFrom alphabet mapped (past w e) es)
 
-pub text-end : (alphabet mapped : ℕ) (w : Walk) → printed (operationsFrom alphabet mapped w []) ≡ printed (ending mapped w)
+pub text-end : (alphabet mapped : ℕ) (w : Walk) → printAll (operationsFrom alphabet mapped w []) ≡ printAll (ending mapped w)
 unfolding operationsFrom
 text-end alphabet mapped w = refl
 
@@ -169,12 +169,12 @@ Open w = (w .kind ≡ substitution) ⊎ (1 ≤ w .run)
 counted-most : (n sign : ℕ) → 1 ≤ n → length (counted n sign) ≤ 2 * n
 counted-most n sign h = omega (arith, length-counted n sign, digits-most (suc n) n (omega arith) h)
 
-pub matches-most : (n : ℕ) → length (printed (matches n)) ≤ 2 * n
+pub matches-most : (n : ℕ) → length (printAll (matches n)) ≤ 2 * n
 matches-most n =
     by-test (eqb n 0) (λ h. rw (matches-none n (eqb-true _ _ h)) (omega arith))
     (λ h. let g = eqb-false n 0 h in rw (matches-some n g) (counted-most n equalsSign (omega arith)))
 
-pub closed-most : (w : Walk) → Open w → length (printed (openRun w)) ≤ 2 * w .run
+pub closed-most : (w : Walk) → Open w → length (printAll (openRun w)) ≤ 2 * w .run
 closed-most w o =
     by-test (eqb (w .kind) insertion)
     (λ h. let k = eqb-true (w .kind) insertion h in rw (closed-insertion w k) (counted-most (w .run) plusSign (⊎-elim (λ z. absurd (omega arith)) (λ z. z) o)))
@@ -186,7 +186,7 @@ closed-most w o =
 
 -- an edit adds to the text what the walk moves by, and leaves its own run to be openRun later
 pub edit-most : (w : Walk) (e : Edit) → Open w → w .next ≤ e .offset
-    → length (printed (gap w e)) + cond (eqb (e .kind) substitution) 1 0 + 2 * past w e .run + 2 * w .next ≤ 2 * w .run + 2 * nextOffset e + 2
+    → length (printAll (gap w e)) + cond (eqb (e .kind) substitution) 1 0 + 2 * past w e .run + 2 * w .next ≤ 2 * w .run + 2 * nextOffset e + 2
 unfolding past
 edit-most w e o h =
     by-test (eqb (e .kind) substitution)

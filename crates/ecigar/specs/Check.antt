@@ -5,19 +5,19 @@ use mathlib.Core.Bool.{Bool, cond}
 use mathlib.Core.List.{List}
 use lib.Dec.{ltb, eqb}
 use lib.ListN.{length}
-use Rattle.refusal.specs.Numbers.{fine, firstOf, misframed, lengthOut, fieldOut}
+use Rattle.refusal.specs.Numbers.{fine, firstRefusal, misframed, lengthOut, fieldOut}
 use Rattle.alphabet.specs.Table35.{sizeOf}
-use Rattle.block.specs.Edits.{widthOf, editAt, editsAt, nextOffset, editRefusal, takenFrom}
-use Rattle.block.specs.Segment.{mostRead, mostEdits}
-use Rattle.block.specs.declared.edit.Edit.{Edit}
+use Rattle.edits.specs.Edits.{widthOf, editAt, editsAt, nextOffset, editRefusal, takenFrom}
+use Rattle.edits.specs.Lengths.{mostRead, mostEdits}
+use Rattle.edits.specs.declared.edit.Edit.{Edit}
 use Rattle.ecigar.specs.Ecigar.{ecigarOf}
-use Rattle.ecigar.specs.declared.check.Checked.{Checked}
-use Rattle.ecigar.specs.declared.check.Checked.the-variants.{Fine, Refused}
+use Rattle.ecigar.specs.declared.check.EditsChecked.{EditsChecked}
+use Rattle.ecigar.specs.declared.check.EditsChecked.the-variants.{Fine, Refused}
 
 -- document 01's number of an answer
-abbrev pub checkedNumber : Checked → ℕ
-checkedNumber (Fine taken text) = fine
-checkedNumber (Refused n) = n
+abbrev pub editsNumber : EditsChecked → ℕ
+editsNumber (Fine taken text) = fine
+editsNumber (Refused n) = n
 
 -- refusal 2: the frame ends before so many bytes from a place on
 abbrev pub endsWithin : (frame : List ℕ) (at width : ℕ) → Bool
@@ -30,14 +30,14 @@ editsRefusal class alphabet frame mapped next zero at = fine
 editsRefusal class alphabet frame mapped next (suc k) at =
     let e : Edit = editAt class alphabet frame at in
     cond (endsWithin frame at (widthOf class)) misframed
-    (firstOf (editRefusal mapped (sizeOf alphabet) next e) (editsRefusal class alphabet frame mapped (nextOffset e) k (at + widthOf class)))
+    (firstRefusal (editRefusal mapped (sizeOf alphabet) next e) (editsRefusal class alphabet frame mapped (nextOffset e) k (at + widthOf class)))
 
 -- a refusal by its number; or the reference positions taken, and the length of the text without clips
-unfoldable pub answered : (number taken text : ℕ) → Checked
+unfoldable pub answered : (number taken text : ℕ) → EditsChecked
 answered number taken text = cond (eqb number fine) (Fine taken text) (Refused number)
 
 -- so many edits from a place of the frame on
-unfoldable pub editsChecked : (class alphabet : ℕ) (frame : List ℕ) (at count mapped : ℕ) → Checked
+unfoldable pub editsChecked : (class alphabet : ℕ) (frame : List ℕ) (at count mapped : ℕ) → EditsChecked
 editsChecked class alphabet frame at count mapped =
     answered
     (editsRefusal class alphabet frame mapped 0 count at)
@@ -46,7 +46,7 @@ editsChecked class alphabet frame at count mapped =
 
 -- the whole check: the count of edits before the edits (11), and no read is longer than the longest (8).
 -- In a record neither is met here: the block's own fields are refused before (segment's `countIn`, `lengthIn`)
-unfoldable pub checkOf : (class alphabet : ℕ) (frame : List ℕ) (at count mapped : ℕ) → Checked
+unfoldable pub checkOf : (class alphabet : ℕ) (frame : List ℕ) (at count mapped : ℕ) → EditsChecked
 checkOf class alphabet frame at count mapped =
     cond (ltb mostEdits count) (Refused fieldOut)
     (cond (ltb mostRead mapped) (Refused lengthOut)

@@ -1,5 +1,5 @@
 -- How the code walks over a segment's edits: Table 93's loops with the run that is open kept as state, and Table 92's clips. Nobody need read this
--- beside the standard: `ecigar-is-table92` (proofs/Table92Laws) says that its text is Table 92's for every segment that is `Aligned` and `Sound`.
+-- beside the standard: `ecigar-is-table92` (proofs/Table92Laws) says that its text is Table 92's for every segment that is `OfItsClass` and `Sound`.
 -- Assumes nothing.
 use Prim.Native.Nat.{ℕ, _+_, _-_, _<_, _≤_}
 use mathlib.Core.Path.{_≡_}
@@ -8,16 +8,16 @@ use mathlib.Core.List.{List, [], _∷_, _++_}
 use lib.Dec.{eqb}
 use lib.ListN.{length}
 use Rattle.alphabet.specs.Table35.{letterOf}
-use Rattle.block.specs.Edits.{substitution, insertion, deletion, nextOffset}
+use Rattle.edits.specs.Edits.{substitution, insertion, deletion, nextOffset}
 use Rattle.unit.specs.Unit.{classP, classI, classHM}
-use Rattle.block.specs.Segment.{noClips, mappedLength}
-use Rattle.block.specs.declared.edit.Edit.{Edit}
-use Rattle.block.specs.declared.Clips.{Clips}
-use Rattle.block.specs.declared.Segment.{Segment}
+use Rattle.edits.specs.Lengths.{noClips, mappedLength}
+use Rattle.edits.specs.declared.edit.Edit.{Edit}
+use Rattle.edits.specs.declared.Clips.{Clips}
+use Rattle.edits.specs.declared.Block.{Block}
 use Rattle.ecigar.specs.declared.walk.Walk.{Walk}
-pub use Rattle.block.specs.Edits.{segmentEdits}
+pub use Rattle.edits.specs.Edits.{blockEdits}
 pub use Rattle.ecigar.specs.Table92.{offsetsOf, lettersIn, typesOf}
-use Rattle.ecigar.specs.Table90.{Operation, matched, substituted, inserted, deleted, softClipped, hardClipped, printed}
+use Rattle.ecigar.specs.Table90.{Operation, matched, substituted, inserted, deleted, softClipped, hardClipped, printAll}
 
 -- before the first edit: previousOffset is 0 and no run is open
 abbrev pub setOut : Walk
@@ -62,7 +62,7 @@ operationsOf alphabet mapped es = operationsFrom alphabet mapped setOut es
 
 -- decodedEcigar of Table 93: their text
 unfoldable pub ecigarOf : (alphabet mapped : ℕ) → List Edit → List ℕ
-ecigarOf alphabet mapped es = printed (operationsOf alphabet mapped es)
+ecigarOf alphabet mapped es = printAll (operationsOf alphabet mapped es)
 
 -- the clip of one side: on a side with soft clips a hard clip is not written (document 01)
 unfoldable pub clip : (soft hard : ℕ) → List Operation
@@ -75,22 +75,22 @@ abbrev pub rightClip : Clips → List Operation
 rightClip c = clip (c .«right_soft») (c .«right_hard»)
 
 -- the operations of a segment: left clip, edits, right clip
-unfoldable pub segmentOperations : (class alphabet : ℕ) (frame : List ℕ) → Segment → List Operation
-segmentOperations class alphabet frame s =
+unfoldable pub blockOperations : (class alphabet : ℕ) (frame : List ℕ) → Block → List Operation
+blockOperations class alphabet frame s =
     leftClip (s .clips)
-    ++ operationsOf alphabet (mappedLength (s .length) (s .clips)) (segmentEdits class alphabet frame s)
+    ++ operationsOf alphabet (mappedLength (s .length) (s .clips)) (blockEdits class alphabet frame s)
     ++ rightClip (s .clips)
 
 -- the text of a segment
-unfoldable pub ecigarText : (class alphabet : ℕ) (frame : List ℕ) → Segment → List ℕ
-ecigarText class alphabet frame s = printed (segmentOperations class alphabet frame s)
+unfoldable pub ecigarText : (class alphabet : ℕ) (frame : List ℕ) → Block → List ℕ
+ecigarText class alphabet frame s = printAll (blockOperations class alphabet frame s)
 
 -- the length of both clips
 unfoldable pub clipsLength : Clips → ℕ
-clipsLength c = length (printed (leftClip c)) + length (printed (rightClip c))
+clipsLength c = length (printAll (leftClip c)) + length (printAll (rightClip c))
 
 -- a segment as its class has it (document 01, Lines and Building a read): only I and HM have clips, P has no edits, and a base is mapped
-pub record Aligned (class : ℕ) (s : Segment) : Type 0 where
+pub record OfItsClass (class : ℕ) (s : Block) : Type 0 where
   pub first : classP ≤ class
   pub last : class ≤ classHM
   pub clips : class < classI → s .clips ≡ noClips

@@ -53,9 +53,9 @@ print (softClipped n) = roundOpen ∷ counted n roundClose
 print (hardClipped n) = squareOpen ∷ counted n squareClose
 
 -- operations, one written behind the other
-unfoldable pub printed : List Operation → List ℕ
-printed [] = []
-printed (o ∷ os) = print o ++ printed os
+unfoldable pub printAll : List Operation → List ℕ
+printAll [] = []
+printAll (o ∷ os) = print o ++ printAll os
 
 -- the column "Operation": how far it moves pointer-to-read r
 abbrev pub movesRead : Operation → ℕ

@@ -1,6 +1,6 @@
 -- Table 92: decoding process for the e-cigar strings of a genomic record without spliced reads, for one segment s.
 -- The variables have the table's names, without their index [s]; its outer loop, for(s = 0; s < numberOfAlignedRecordSegments; s++), is the aligned segments of
--- the record (10.4.10: 1 in HM, 0 in U, else numberOfRecordSegments), which plan's `firstPart` and `secondPart` tell by the class.
+-- the record (10.4.10: 1 in HM, 0 in U, else numberOfRecordSegments), which plan's `firstSegment` and `secondSegment` tell by the class.
 -- Assumes nothing.
 use Prim.Native.Nat.{ℕ, _-_}
 use mathlib.Core.Bool.{cond, not, _||_}
@@ -9,7 +9,7 @@ use lib.Dec.{eqb}
 use lib.ListN.{length}
 use Rattle.unit.specs.Unit.{classP, classN, classM, classI, classHM}
 use Rattle.alphabet.specs.Table35.{letterOf}
-use Rattle.block.specs.declared.edit.Edit.{Edit}
+use Rattle.edits.specs.declared.edit.Edit.{Edit}
 use Rattle.ecigar.specs.Table90.{roundOpen, roundClose, squareOpen, squareClose}
 use Rattle.ecigar.specs.Table93.{inttostr, decodeECigarMismatches}
 

@@ -4,13 +4,13 @@ use Prim.Native.Nat.{ℕ, _+_, _-_}
 use mathlib.Core.Bool.{cond}
 use lib.Dec.{eqb}
 use lib.ListN.{length}
-use Rattle.block.specs.Edits.{substitution, takenBy}
-use Rattle.block.specs.declared.edit.Edit.{Edit}
+use Rattle.edits.specs.Edits.{substitution, takenBy}
+use Rattle.edits.specs.declared.edit.Edit.{Edit}
 use Rattle.ecigar.specs.declared.walk.Walk.{Walk}
 use Rattle.ecigar.specs.declared.check.Tally.{Tally}
-use Rattle.ecigar.specs.declared.check.Checked.{Checked}
-use Rattle.ecigar.specs.declared.check.Checked.the-variants.{Fine}
-use Rattle.ecigar.specs.Table90.{printed}
+use Rattle.ecigar.specs.declared.check.EditsChecked.{EditsChecked}
+use Rattle.ecigar.specs.declared.check.EditsChecked.the-variants.{Fine}
+use Rattle.ecigar.specs.Table90.{printAll}
 use Rattle.ecigar.specs.Ecigar.{setOut, past, gap, ending}
 
 -- nothing taken and nothing written
@@ -19,7 +19,7 @@ startTally = record { walk = setOut; taken = 0; text = 0 }
 
 -- the characters that an edit adds: what stands before it, and its letter
 unfoldable pub textBy : Walk → Edit → ℕ
-textBy w e = length (printed (gap w e)) + cond (eqb (e .kind) substitution) 1 0
+textBy w e = length (printAll (gap w e)) + cond (eqb (e .kind) substitution) 1 0
 
 -- the tally after one more edit
 unfoldable pub tallied : Tally → Edit → Tally
@@ -31,5 +31,5 @@ tallied t e =
     }
 
 -- the tally after the last edit
-unfoldable pub finished : (mapped : ℕ) → Tally → Checked
-finished mapped t = Fine (t .taken + (mapped - t .walk .next)) (t .text + length (printed (ending mapped (t .walk))))
+unfoldable pub afterLast : (mapped : ℕ) → Tally → EditsChecked
+afterLast mapped t = Fine (t .taken + (mapped - t .walk .next)) (t .text + length (printAll (ending mapped (t .walk))))

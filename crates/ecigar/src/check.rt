@@ -2,23 +2,23 @@
 use crate::walk::Walk;
 use crate::walk::advance;
 use crate::walk::joins;
-use block::Segment;
-use block::edit::Edit;
-use block::edit::edit_at;
-use block::edit::refusal_of;
-use block::edit::width;
+use edits::Block;
+use edits::edit::Edit;
+use edits::edit::edit_at;
+use edits::edit::refusal_of;
+use edits::edit::width;
 use writing::decimal::decimal_len;
 ghost use mathlib.Core.Path.{_≡_};
 ghost use Prim.Native.Nat.{_+_, _-_, _<_, _≤_};
 ghost use lib.ListN.{length};
 ghost use Rattle.frame.specs.Hex.{unhex};
 ghost use Rattle.writing.specs.Decimal.{decimal};
-ghost use Rattle.block.specs.Edits.{takenBy};
-ghost use Rattle.block.specs.Segment.{mostRead, mostEdits, mostEcigar};
-ghost use Rattle.ecigar.specs.Table90.{printed};
+ghost use Rattle.edits.specs.Edits.{takenBy};
+ghost use Rattle.edits.specs.Lengths.{mostRead, mostEdits, mostEcigar};
+ghost use Rattle.ecigar.specs.Table90.{printAll};
 ghost use Rattle.ecigar.specs.Ecigar.{openRun, matches, gap};
 ghost use Rattle.ecigar.specs.Check.{endsWithin, editsChecked, checkOf};
-ghost use Rattle.ecigar.specs.Tally.{startTally, textBy, tallied, finished};
+ghost use Rattle.ecigar.specs.Tally.{startTally, textBy, tallied, afterLast};
 
 // What the check keeps from edit to edit: the walk, the reference positions taken, and the length of the text so far.
 pub struct Tally {
@@ -28,7 +28,7 @@ pub struct Tally {
 }
 
 // What a segment's edits come to: the reference positions taken and the length of the text without clips, or a refusal.
-pub enum Checked {
+pub enum EditsChecked {
     Fine { taken: u32, text: u32 },
     Refused(u32),
 }
@@ -54,7 +54,7 @@ pub(crate) fn count_len(n: u32) -> u32
 }
 
 fn matches_len(n: u32) -> u32
-    ensures { λ r. ⌜ (r ≡ length (printed (matches n))) × (r ≤ 11) ⌝ }
+    ensures { λ r. ⌜ (r ≡ length (printAll (matches n))) × (r ≤ 11) ⌝ }
 {
     if n == 0 {
         return 0;
@@ -63,7 +63,7 @@ fn matches_len(n: u32) -> u32
 }
 
 fn closed_len(w: Walk) -> u32
-    ensures { λ r. ⌜ (r ≡ length (printed (openRun w))) × (r ≤ 11) ⌝ }
+    ensures { λ r. ⌜ (r ≡ length (printAll (openRun w))) × (r ≤ 11) ⌝ }
 {
     if w.kind == Edit::INSERTION {
         return count_len(w.run);
@@ -76,7 +76,7 @@ fn closed_len(w: Walk) -> u32
 
 fn gap_len(w: Walk, e: Edit) -> u32
     requires { ⌜ w .next ≤ e .offset ⌝ }
-    ensures { λ r. ⌜ (r ≡ length (printed (gap w e))) × (r ≤ 22) ⌝ }
+    ensures { λ r. ⌜ (r ≡ length (printAll (gap w e))) × (r ≤ 22) ⌝ }
 {
     if joins(w, e) {
         return 0;
@@ -125,14 +125,14 @@ fn take_edit(t: Tally, e: Edit) -> Tally
 }
 
 // The tally after the last edit.
-fn finish(t: Tally, mapped: u32) -> Checked
+fn finish(t: Tally, mapped: u32) -> EditsChecked
     requires { ⌜ (t .walk .next ≤ mapped) × ((mapped ≤ mostRead) × ((t .taken ≤ mostRead + mostEdits) × (t .text ≤ mostEcigar))) ⌝ }
-    ensures { λ r. ⌜ r ≡ finished mapped t ⌝ }
+    ensures { λ r. ⌜ r ≡ afterLast mapped t ⌝ }
 {
     let w = t.walk;
     let rest = mapped - w.next;
     let last = closed_len(w) + matches_len(rest);
-    Checked::Fine {
+    EditsChecked::Fine {
         taken: t.taken + rest,
         text: t.text + last,
     }
@@ -160,7 +160,7 @@ fn check_edits(
     place: usize,
     count: u32,
     mapped: u32,
-) -> Checked
+) -> EditsChecked
     requires { ⌜ (count ≤ mostEdits) × (mapped ≤ mostRead) ⌝ }
     ensures { λ r. ⌜ r ≡ editsChecked class alphabet (unhex (now (line .entry))) place count mapped ⌝ }
 {
@@ -171,13 +171,13 @@ fn check_edits(
     let mut left = count;
     while 0 < left {
         if ends_within(line, at, step) {
-            return Checked::Refused(refusal::MISFRAMED);
+            return EditsChecked::Refused(refusal::MISFRAMED);
         }
         let e = edit_at(line, class, alphabet, at);
         let w = t.walk;
         let no = refusal_of(e, w.next, mapped, symbols);
         if no != refusal::FINE {
-            return Checked::Refused(no);
+            return EditsChecked::Refused(no);
         }
         t = take_edit(t, e);
         at += step;
@@ -194,14 +194,14 @@ pub fn check(
     place: usize,
     count: u32,
     mapped: u32,
-) -> Checked
+) -> EditsChecked
     ensures { λ r. ⌜ r ≡ checkOf class alphabet (unhex (now (line .entry))) place count mapped ⌝ }
 {
-    if Segment::EDITS < count {
-        return Checked::Refused(refusal::FIELD_OUT);
+    if Block::EDITS < count {
+        return EditsChecked::Refused(refusal::FIELD_OUT);
     }
-    if Segment::READ < mapped {
-        return Checked::Refused(refusal::LENGTH_OUT);
+    if Block::READ < mapped {
+        return EditsChecked::Refused(refusal::LENGTH_OUT);
     }
     check_edits(line, class, alphabet, place, count, mapped)
 }

@@ -1,18 +1,18 @@
 // The clips of a segment: (n) for a side's soft clip, else [n] for its hard clip.
 use crate::check::count_len;
 use crate::text::put_count;
-use block::Clips;
+use edits::Clips;
 use writing::lay::put_byte;
 ghost use mathlib.Core.Path.{_≡_};
 ghost use Prim.Native.Nat.{_+_, _*_, _≤_};
 ghost use lib.ListN.{length};
 ghost use Rattle.writing.specs.Lay.{Laid};
-ghost use Rattle.ecigar.specs.Table90.{printed};
+ghost use Rattle.ecigar.specs.Table90.{printAll};
 ghost use Rattle.ecigar.specs.Ecigar.{clip, clipsLength};
 
 // The characters of one side.
 fn clip_len(soft: u32, hard: u32) -> u32
-    ensures { λ r. ⌜ (r ≡ length (printed (clip soft hard))) × (r ≤ 12) ⌝ }
+    ensures { λ r. ⌜ (r ≡ length (printAll (clip soft hard))) × (r ≤ 12) ⌝ }
 {
     if soft != 0 {
         return count_len(soft) + 1;
@@ -34,8 +34,8 @@ pub fn clips_len(clips: Clips) -> u32
 
 // One side, laid as digits.
 pub(crate) fn put_clip(out: &mut [u8], at: usize, soft: u32, hard: u32) -> usize
-    requires { ⌜ at + 2 * length (printed (clip soft hard)) ≤ length (now out) ⌝ }
-    ensures { λ r. ⌜ Laid (now (out .entry)) (now (out .exit)) at r (printed (clip soft hard)) ⌝ }
+    requires { ⌜ at + 2 * length (printAll (clip soft hard)) ≤ length (now out) ⌝ }
+    ensures { λ r. ⌜ Laid (now (out .entry)) (now (out .exit)) at r (printAll (clip soft hard)) ⌝ }
 {
     if soft != 0 {
         let next = put_byte(out, at, b'(');

@@ -3,11 +3,11 @@ use crate::clip::put_clip;
 use crate::walk::Walk;
 use crate::walk::advance;
 use crate::walk::joins;
-use block::Segment;
-use block::edit::Edit;
-use block::edit::edit_at;
-use block::edit::width;
-use block::mapped_length;
+use edits::Block;
+use edits::edit::Edit;
+use edits::edit::edit_at;
+use edits::edit::width;
+use edits::mapped_length;
 use writing::decimal::put_decimal;
 use writing::lay::put_byte;
 ghost use mathlib.Core.List.{_++_};
@@ -16,10 +16,10 @@ ghost use lib.ListN.{length};
 ghost use Rattle.frame.specs.Hex.{unhex};
 ghost use Rattle.writing.specs.Lay.{Laid};
 ghost use Rattle.alphabet.specs.Table35.{sizeOf};
-ghost use Rattle.block.specs.Edits.{widthOf, editsAt, Sound};
-ghost use Rattle.block.specs.Segment.{mostEdits, mappedLength};
-ghost use Rattle.ecigar.specs.Table90.{counted, printed};
-ghost use Rattle.ecigar.specs.Ecigar.{openRun, matches, gap, mark, ending, ecigarOf, segmentEdits, ecigarText};
+ghost use Rattle.edits.specs.Edits.{widthOf, editsAt, Sound};
+ghost use Rattle.edits.specs.Lengths.{mostEdits, mappedLength};
+ghost use Rattle.ecigar.specs.Table90.{counted, printAll};
+ghost use Rattle.ecigar.specs.Ecigar.{openRun, matches, gap, mark, ending, ecigarOf, blockEdits, ecigarText};
 
 // A count and its sign.
 pub(crate) fn put_count(out: &mut [u8], at: usize, n: u32, sign: u8) -> usize
@@ -31,8 +31,8 @@ pub(crate) fn put_count(out: &mut [u8], at: usize, n: u32, sign: u8) -> usize
 }
 
 fn put_matches(out: &mut [u8], at: usize, n: u32) -> usize
-    requires { ⌜ at + 2 * length (printed (matches n)) ≤ length (now out) ⌝ }
-    ensures { λ r. ⌜ Laid (now (out .entry)) (now (out .exit)) at r (printed (matches n)) ⌝ }
+    requires { ⌜ at + 2 * length (printAll (matches n)) ≤ length (now out) ⌝ }
+    ensures { λ r. ⌜ Laid (now (out .entry)) (now (out .exit)) at r (printAll (matches n)) ⌝ }
 {
     if n == 0 {
         return at;
@@ -42,8 +42,8 @@ fn put_matches(out: &mut [u8], at: usize, n: u32) -> usize
 
 // The run that is open, if one is.
 fn put_closed(out: &mut [u8], at: usize, w: Walk) -> usize
-    requires { ⌜ at + 2 * length (printed (openRun w)) ≤ length (now out) ⌝ }
-    ensures { λ r. ⌜ Laid (now (out .entry)) (now (out .exit)) at r (printed (openRun w)) ⌝ }
+    requires { ⌜ at + 2 * length (printAll (openRun w)) ≤ length (now out) ⌝ }
+    ensures { λ r. ⌜ Laid (now (out .entry)) (now (out .exit)) at r (printAll (openRun w)) ⌝ }
 {
     if w.kind == Edit::INSERTION {
         return put_count(out, at, w.run, b'+');
@@ -56,8 +56,8 @@ fn put_closed(out: &mut [u8], at: usize, w: Walk) -> usize
 
 // What stands between the last edit and this one.
 fn put_gap(out: &mut [u8], at: usize, w: Walk, e: Edit) -> usize
-    requires { ⌜ (w .next ≤ e .offset) × (at + 2 * length (printed (gap w e)) ≤ length (now out)) ⌝ }
-    ensures { λ r. ⌜ Laid (now (out .entry)) (now (out .exit)) at r (printed (gap w e)) ⌝ }
+    requires { ⌜ (w .next ≤ e .offset) × (at + 2 * length (printAll (gap w e)) ≤ length (now out)) ⌝ }
+    ensures { λ r. ⌜ Laid (now (out .entry)) (now (out .exit)) at r (printAll (gap w e)) ⌝ }
 {
     if joins(w, e) {
         return at;
@@ -68,8 +68,8 @@ fn put_gap(out: &mut [u8], at: usize, w: Walk, e: Edit) -> usize
 
 // The letter of a substitution. The letter - of alphabet 1 is one like the others.
 fn put_mark(out: &mut [u8], at: usize, alphabet: u32, e: Edit) -> usize
-    requires { ⌜ at + 2 * length (printed (mark alphabet e)) ≤ length (now out) ⌝ }
-    ensures { λ r. ⌜ Laid (now (out .entry)) (now (out .exit)) at r (printed (mark alphabet e)) ⌝ }
+    requires { ⌜ at + 2 * length (printAll (mark alphabet e)) ≤ length (now out) ⌝ }
+    ensures { λ r. ⌜ Laid (now (out .entry)) (now (out .exit)) at r (printAll (mark alphabet e)) ⌝ }
 {
     if e.kind == Edit::SUBSTITUTION {
         let b = alphabet::letter(alphabet, e.symbol as u32);
@@ -80,8 +80,8 @@ fn put_mark(out: &mut [u8], at: usize, alphabet: u32, e: Edit) -> usize
 
 // What one edit adds to the text.
 fn put_edit(out: &mut [u8], at: usize, alphabet: u32, w: Walk, e: Edit) -> usize
-    requires { ⌜ (w .next ≤ e .offset) × (at + 2 * length (printed (gap w e ++ mark alphabet e)) ≤ length (now out)) ⌝ }
-    ensures { λ r. ⌜ Laid (now (out .entry)) (now (out .exit)) at r (printed (gap w e ++ mark alphabet e)) ⌝ }
+    requires { ⌜ (w .next ≤ e .offset) × (at + 2 * length (printAll (gap w e ++ mark alphabet e)) ≤ length (now out)) ⌝ }
+    ensures { λ r. ⌜ Laid (now (out .entry)) (now (out .exit)) at r (printAll (gap w e ++ mark alphabet e)) ⌝ }
 {
     let next = put_gap(out, at, w, e);
     put_mark(out, next, alphabet, e)
@@ -89,8 +89,8 @@ fn put_edit(out: &mut [u8], at: usize, alphabet: u32, w: Walk, e: Edit) -> usize
 
 // What stands behind the last edit.
 fn put_ending(out: &mut [u8], at: usize, w: Walk, mapped: u32) -> usize
-    requires { ⌜ (w .next ≤ mapped) × (at + 2 * length (printed (ending mapped w)) ≤ length (now out)) ⌝ }
-    ensures { λ r. ⌜ Laid (now (out .entry)) (now (out .exit)) at r (printed (ending mapped w)) ⌝ }
+    requires { ⌜ (w .next ≤ mapped) × (at + 2 * length (printAll (ending mapped w)) ≤ length (now out)) ⌝ }
+    ensures { λ r. ⌜ Laid (now (out .entry)) (now (out .exit)) at r (printAll (ending mapped w)) ⌝ }
 {
     let next = put_closed(out, at, w);
     put_matches(out, next, mapped - w.next)
@@ -134,15 +134,15 @@ pub fn write(
     line: &[u8],
     class: u32,
     alphabet: u32,
-    segment: Segment,
+    block: Block,
 ) -> usize
-    requires { ⌜ (segment .edits ≤ mostEdits) × (segment .«edits_at» + segment .edits * widthOf class ≤ length (unhex (now line))) ⌝ }
-    requires { ⌜ Sound (mappedLength (segment .length) (segment .clips)) (sizeOf alphabet) 0 (segmentEdits class alphabet (unhex (now line)) segment) ⌝ }
-    requires { ⌜ at + 2 * length (ecigarText class alphabet (unhex (now line)) segment) ≤ length (now out) ⌝ }
-    ensures { λ r. ⌜ Laid (now (out .entry)) (now (out .exit)) at r (ecigarText class alphabet (unhex (now (line .entry))) segment) ⌝ }
+    requires { ⌜ (block .edits ≤ mostEdits) × (block .«edits_at» + block .edits * widthOf class ≤ length (unhex (now line))) ⌝ }
+    requires { ⌜ Sound (mappedLength (block .length) (block .clips)) (sizeOf alphabet) 0 (blockEdits class alphabet (unhex (now line)) block) ⌝ }
+    requires { ⌜ at + 2 * length (ecigarText class alphabet (unhex (now line)) block) ≤ length (now out) ⌝ }
+    ensures { λ r. ⌜ Laid (now (out .entry)) (now (out .exit)) at r (ecigarText class alphabet (unhex (now (line .entry))) block) ⌝ }
 {
-    let clips = segment.clips;
-    let mapped = mapped_length(segment.length, clips);
+    let clips = block.clips;
+    let mapped = mapped_length(block.length, clips);
     let left = put_clip(out, at, clips.left_soft as u32, clips.left_hard as u32);
     let edits = write_edits(
         out,
@@ -150,8 +150,8 @@ pub fn write(
         line,
         class,
         alphabet,
-        segment.edits_at,
-        segment.edits,
+        block.edits_at,
+        block.edits,
         mapped,
     );
     put_clip(out, edits, clips.right_soft as u32, clips.right_hard as u32)

@@ -1,9 +1,9 @@
 // Where Table 93 stands between two edits.
-use block::edit::Edit;
-use block::edit::next_offset;
+use edits::edit::Edit;
+use edits::edit::next_offset;
 ghost use mathlib.Core.Path.{_≡_};
 ghost use Prim.Native.Nat.{_<_};
-ghost use Rattle.block.specs.Segment.{mostEdits};
+ghost use Rattle.edits.specs.Lengths.{mostEdits};
 ghost use Rattle.ecigar.specs.Ecigar.{setOut, joinsRun, past};
 
 // Table 93's previousOffset, and the run of insertions or deletions that is open: its type, and how many edits it has.

@@ -3,13 +3,13 @@
 use mathlib.Core.Path.{refl}
 use Rattle.frame.specs.Line.{lineWithin}
 use Rattle.unit.specs.Unit.{leastSegments, unitRefusal}
-use Rattle.unit.specs.Listed.{words, headOf}
+use Rattle.unit.specs.Listed.{words, listedHead}
 use Rattle.bases.specs.Bases.{pastEdit, editBases, basesFrom, refusalFrom, lettersAt, basesText}
 use Rattle.bases.specs.Reference.{isLent, baseAt, baseRefusal, matchedBases, matchRefusal}
-use Rattle.block.specs.Edits.{widthOf, editAt, editsAt, nextOffset, deletionRefusal, editRefusal, takenFrom}
+use Rattle.edits.specs.Edits.{widthOf, editAt, editsAt, nextOffset, deletionRefusal, editRefusal, takenFrom}
 use Rattle.ecigar.specs.Check.{editsRefusal, answered, editsChecked, checkOf}
-use Rattle.ecigar.specs.Ecigar.{joinsRun, past, matches, openRun, gap, mark, ending, operationsFrom, clip, segmentOperations, ecigarText}
-use Rattle.ecigar.specs.Table90.{printed}
+use Rattle.ecigar.specs.Ecigar.{joinsRun, past, matches, openRun, gap, mark, ending, operationsFrom, clip, blockOperations, ecigarText}
+use Rattle.ecigar.specs.Table90.{printAll}
 use Rattle.writing.specs.Decimal.{decimalF, decimal}
 use Rattle.frame.specs.Field.{bigAt, fieldAt}
 use Rattle.frame.specs.Hex.{isDigit, nib, unhex, allDigits, be}
@@ -18,18 +18,18 @@ use Rattle.pairing.specs.Table60.{same-rec, table60}
 use Rattle.pairing.specs.Take.{takeOf}
 use Rattle.unit.specs.State.{within}
 use Rattle.plan.specs.Lent.{countsOut, stateRefusal, lentRefusal}
-use Rattle.plan.specs.Plan.{finished as finishedPlan, firstPart, secondPart, fromSecond, fromFirst, fromPos, fromKind, planOf}
-use Rattle.segment.specs.Aligned.{tallied as talliedSegment, fromEdits, fromSoft, fromClips, fromRcomp, alignedAt}
-use Rattle.segment.specs.Checked.{lengthAt, rcompAt, countAt}
-use Rattle.segment.specs.Clips.{clipsIn, clipsAt}
-use Rattle.part.specs.Part.{placed, placedAt, plainAt, alignedBytes, unalignedBytes, partBytes}
-use Rattle.part.specs.Place.{placeRefusal}
-use Rattle.segment.specs.Symbols.{symbolsFrom}
-use Rattle.segment.specs.Unaligned.{fromLength, unalignedAt}
+use Rattle.plan.specs.Plan.{nothingLeftOver as finishedPlan, firstSegment, secondSegment, fromSecond, fromFirst, fromPos, fromKind, planOf}
+use Rattle.block.specs.Aligned.{editsTallied as talliedBlock, fromEdits, fromSoft, fromClips, fromRcomp, alignedAt}
+use Rattle.block.specs.Checked.{lengthAt, rcompAt, countAt}
+use Rattle.block.specs.Clips.{clipsIn, clipsAt}
+use Rattle.segment.specs.Segment.{placed, placedAt, plainAt, alignedBytes, unalignedBytes, segmentBytes}
+use Rattle.segment.specs.Place.{placeRefusal}
+use Rattle.block.specs.Symbols.{symbolsFrom}
+use Rattle.block.specs.Unaligned.{fromLength, unalignedAt}
 use Rattle.alphabet.specs.Table35.{sizeOf, letterOf, codeOfN}
 use Rattle.record.specs.Record.{stepOf, linkBytes, listedBytes}
 use Rattle.examples.specs.Examples.{Examples}
 
 pub examples : Examples
-unfolding pastEdit editBases basesFrom refusalFrom lettersAt basesText isLent baseAt baseRefusal matchedBases matchRefusal widthOf editAt editsAt nextOffset deletionRefusal editRefusal takenFrom editsRefusal answered editsChecked checkOf joinsRun past matches openRun gap mark ending operationsFrom clip segmentOperations ecigarText printed decimalF decimal bigAt fieldAt isDigit nib unhex allDigits be lineWithin decode recordSteps pairOf same-rec table60 takeOf countsOut within stateRefusal lentRefusal firstPart secondPart fromSecond fromFirst fromPos fromKind planOf linkBytes listedBytes stepOf fromEdits fromSoft fromClips fromRcomp alignedAt lengthAt rcompAt countAt clipsIn clipsAt placed placedAt plainAt alignedBytes unalignedBytes partBytes placeRefusal symbolsFrom fromLength unalignedAt words headOf sizeOf letterOf codeOfN leastSegments unitRefusal finishedPlan talliedSegment
+unfolding pastEdit editBases basesFrom refusalFrom lettersAt basesText isLent baseAt baseRefusal matchedBases matchRefusal widthOf editAt editsAt nextOffset deletionRefusal editRefusal takenFrom editsRefusal answered editsChecked checkOf joinsRun past matches openRun gap mark ending operationsFrom clip blockOperations ecigarText printAll decimalF decimal bigAt fieldAt isDigit nib unhex allDigits be lineWithin decode recordSteps pairOf same-rec table60 takeOf countsOut within stateRefusal lentRefusal firstSegment secondSegment fromSecond fromFirst fromPos fromKind planOf linkBytes listedBytes stepOf fromEdits fromSoft fromClips fromRcomp alignedAt lengthAt rcompAt countAt clipsIn clipsAt placed placedAt plainAt alignedBytes unalignedBytes segmentBytes placeRefusal symbolsFrom fromLength unalignedAt words listedHead sizeOf letterOf codeOfN leastSegments unitRefusal finishedPlan talliedBlock
 examples = refl

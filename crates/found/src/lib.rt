@@ -1,10 +1,10 @@
 // The found file: what of it is kept, where the listing goes on behind it, and the kept bytes written again.
+use front::unit_line::UnitLine;
+use kept::keep::Keep;
 use libc::STDERR_FILENO;
+use opening::files::FrontRead;
 use opening::first::write_first;
-use opening::front::Front;
-use preface::unit_line::UnitLine;
 use program::sink::write;
-use remains::keep::Keep;
 use resuming::place::Go;
 use resuming::place::place;
 use stream::source::Source;
@@ -103,17 +103,17 @@ fn unread() -> Found {
 }
 
 // The record count by which a last line is looked at. Where the front is refused there is no record.
-fn record_count(front: Front) -> u32 {
+fn record_count(front: FrontRead) -> u32 {
     match front {
-        Front::Ready(unit) => unit.records,
-        Front::Unpaired(_, _) => 0,
-        Front::Alone(_) => 0,
-        Front::Unread => 0,
+        FrontRead::Ready(unit) => unit.records,
+        FrontRead::Unpaired(_, _) => 0,
+        FrontRead::Alone(_) => 0,
+        FrontRead::Unread => 0,
     }
 }
 
 // The first and the last kept line are read again, and put beside the listing's first line.
-fn look(fd: i32, keep: Keep, front: Front, counts: [u32; State::SUBSEQUENCES]) -> Found {
+fn look(fd: i32, keep: Keep, front: FrontRead, counts: [u32; State::SUBSEQUENCES]) -> Found {
     let mut first = [0u8; EDGE];
     let Edge::Bytes(a) = read_edge(fd, 0, keep.first, &mut first) else {
         return unread();
@@ -139,7 +139,12 @@ fn look(fd: i32, keep: Keep, front: Front, counts: [u32; State::SUBSEQUENCES]) -
 }
 
 // What a found file comes to, for a front with these symbol counts.
-pub fn find(fd: i32, front: Front, counts: [u32; State::SUBSEQUENCES], buf: &mut [u8]) -> Found {
+pub fn find(
+    fd: i32,
+    front: FrontRead,
+    counts: [u32; State::SUBSEQUENCES],
+    buf: &mut [u8],
+) -> Found {
     let s = scan(fd, buf);
     if s.source.failed {
         return unread();

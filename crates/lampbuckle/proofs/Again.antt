@@ -20,7 +20,7 @@ use Rattle.listing.specs.Lines.{same}
 use Rattle.listing.specs.Resuming.{Last, stateAt, Edges, nothing, edges, onLast, placeBy}
 use Rattle.listing.proofs.LastLaws.{length-wordsAt, Sorted, listed, closed05, closed06, other, sorted}
 use Rattle.resuming.specs.Last.{placedOf}
-use Rattle.remains.specs.declared.keep.Keep.{Keep}
+use Rattle.kept.specs.declared.keep.Keep.{Keep}
 use Rattle.lampbuckle.specs.Numbers.{unitNumbers, unitOf, stateLength, stateNumbers, stateOf, flag, keepNumbers, keepOf}
 
 -- the unit that `lampbuckle_unit_line` laid

@@ -11,17 +11,17 @@ use Rattle.refusal.specs.Numbers.{fine}
 use Rattle.writing.specs.Whole.{wroteOf, lineInto}
 use Rattle.frame.proofs.HexLaws.{by-test}
 use Rattle.unit.specs.Listed.{Step, refused, accepted}
-use Rattle.preface.specs.UnitLine.{unitLine, unitBytes}
-use Rattle.preface.specs.PairLine.{pairLine}
-use Rattle.preface.specs.ReferenceLine.{referenceLine}
+use Rattle.front.specs.UnitLine.{unitLine, unitBytes}
+use Rattle.front.specs.PairLine.{pairLine}
+use Rattle.front.specs.ReferenceLine.{referenceLine}
 use Rattle.unit.specs.State.{subsequences}
 use Rattle.unit.specs.declared.State.{State}
-use Rattle.preface.specs.declared.unit_line.UnitLine.{UnitLine}
-use Rattle.preface.specs.declared.unit_line.UnitLine.the-variants as unit
-use Rattle.preface.specs.declared.pair_line.PairLine.{PairLine}
-use Rattle.preface.specs.declared.pair_line.PairLine.the-variants as pair
-use Rattle.preface.specs.declared.reference_line.ReferenceLine.{ReferenceLine}
-use Rattle.preface.specs.declared.reference_line.ReferenceLine.the-variants as reference
+use Rattle.front.specs.declared.unit_line.UnitLine.{UnitLine}
+use Rattle.front.specs.declared.unit_line.UnitLine.the-variants as unit
+use Rattle.front.specs.declared.pair_line.PairLine.{PairLine}
+use Rattle.front.specs.declared.pair_line.PairLine.the-variants as pair
+use Rattle.front.specs.declared.reference_line.ReferenceLine.{ReferenceLine}
+use Rattle.front.specs.declared.reference_line.ReferenceLine.the-variants as reference
 use Rattle.record.specs.Record.{recordOf}
 use Rattle.resuming.specs.Last.{placedOf}
 use Rattle.listing.specs.Resuming.{edgesFrom, placeBy}

@@ -8,18 +8,18 @@ use lib.IntN.{ℤ, pos}
 use lib.ListN.{length, set}
 use borrow.Author.Tests.{eq-eqb}
 use Rattle.unit.specs.State.{subsequences}
-use Rattle.preface.specs.UnitLine.{unitLine}
-use Rattle.preface.specs.PairLine.{pairLine, tableAfter}
-use Rattle.preface.specs.ReferenceLine.{referenceLine, referenceAfter}
+use Rattle.front.specs.UnitLine.{unitLine}
+use Rattle.front.specs.PairLine.{pairLine, tableAfter}
+use Rattle.front.specs.ReferenceLine.{referenceLine, referenceAfter}
 use Rattle.unit.specs.declared.Unit.{Unit}
-use Rattle.preface.specs.declared.unit_line.UnitLine.{UnitLine}
-use Rattle.preface.specs.declared.unit_line.UnitLine.the-variants as unit
-use Rattle.preface.specs.declared.pair_line.PairLine.{PairLine}
-use Rattle.preface.specs.declared.pair_line.PairLine.the-variants as pair
-use Rattle.preface.specs.declared.reference_line.ReferenceLine.{ReferenceLine}
-use Rattle.preface.specs.declared.reference_line.ReferenceLine.the-variants as reference
-use Rattle.preface.proofs.PairLaws.{table-kept, pair-accepted}
-use Rattle.preface.proofs.ReferenceLaws.{reference-kept, reference-accepted}
+use Rattle.front.specs.declared.unit_line.UnitLine.{UnitLine}
+use Rattle.front.specs.declared.unit_line.UnitLine.the-variants as unit
+use Rattle.front.specs.declared.pair_line.PairLine.{PairLine}
+use Rattle.front.specs.declared.pair_line.PairLine.the-variants as pair
+use Rattle.front.specs.declared.reference_line.ReferenceLine.{ReferenceLine}
+use Rattle.front.specs.declared.reference_line.ReferenceLine.the-variants as reference
+use Rattle.front.proofs.PairLaws.{table-kept, pair-accepted}
+use Rattle.front.proofs.ReferenceLaws.{reference-kept, reference-accepted}
 use Rattle.lampbuckle.specs.Answer.{minus, outcome}
 use Rattle.lampbuckle.specs.Numbers.{unitLength, unitNumbers}
 use Rattle.lampbuckle.specs.Lines.{unitCall, pairCall, referenceCall}

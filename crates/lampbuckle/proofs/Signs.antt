@@ -17,16 +17,16 @@ use Rattle.writing.specs.Whole.{wroteOf}
 use Rattle.unit.specs.Listed.{Step, refused, accepted}
 use Rattle.unit.specs.State.{subsequences}
 use Rattle.unit.proofs.RefusalLaws.{unit-early}
-use Rattle.preface.specs.UnitLine.{unitLine, unitBytes}
-use Rattle.preface.specs.PairLine.{pairLine}
-use Rattle.preface.specs.ReferenceLine.{referenceLine}
-use Rattle.preface.specs.declared.unit_line.UnitLine.{UnitLine}
-use Rattle.preface.specs.declared.unit_line.UnitLine.the-variants as unit
-use Rattle.preface.specs.declared.pair_line.PairLine.{PairLine}
-use Rattle.preface.specs.declared.pair_line.PairLine.the-variants as pair
-use Rattle.preface.specs.declared.reference_line.ReferenceLine.{ReferenceLine}
-use Rattle.preface.specs.declared.reference_line.ReferenceLine.the-variants as reference
-use Rattle.preface.proofs.RefusalLaws.{unit-refusal, pair-refusal, reference-refusal}
+use Rattle.front.specs.UnitLine.{unitLine, unitBytes}
+use Rattle.front.specs.PairLine.{pairLine}
+use Rattle.front.specs.ReferenceLine.{referenceLine}
+use Rattle.front.specs.declared.unit_line.UnitLine.{UnitLine}
+use Rattle.front.specs.declared.unit_line.UnitLine.the-variants as unit
+use Rattle.front.specs.declared.pair_line.PairLine.{PairLine}
+use Rattle.front.specs.declared.pair_line.PairLine.the-variants as pair
+use Rattle.front.specs.declared.reference_line.ReferenceLine.{ReferenceLine}
+use Rattle.front.specs.declared.reference_line.ReferenceLine.the-variants as reference
+use Rattle.front.proofs.RefusalLaws.{unit-refusal, pair-refusal, reference-refusal}
 use Rattle.record.specs.Record.{recordOf}
 use Rattle.record.proofs.RefusalLaws.{record-refusal}
 use Rattle.listing.specs.Lines.{same}

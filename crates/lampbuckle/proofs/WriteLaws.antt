@@ -13,7 +13,7 @@ use Rattle.writing.specs.Whole.{wroteOf, lineInto}
 use Rattle.writing.specs.declared.lay.Wrote.{Wrote}
 use Rattle.frame.proofs.HexLaws.{by-test}
 use Rattle.unit.specs.Unit.{unitRefusal}
-use Rattle.preface.specs.UnitLine.{unitBytes}
+use Rattle.front.specs.UnitLine.{unitBytes}
 use Rattle.unit.specs.declared.Unit.{Unit}
 use Rattle.lampbuckle.specs.Answer.{minus, outcome}
 use Rattle.lampbuckle.specs.Numbers.{unitLength, unitOf, unitNumbersRefusal}

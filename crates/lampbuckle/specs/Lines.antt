@@ -7,15 +7,15 @@ use lib.Dec.{eqb}
 use lib.ListN.{length, set}
 use Rattle.refusal.specs.Numbers.{unitOut, countOut}
 use Rattle.unit.specs.State.{subsequences}
-use Rattle.preface.specs.UnitLine.{unitLine}
-use Rattle.preface.specs.PairLine.{pairLine, tableAfter}
-use Rattle.preface.specs.ReferenceLine.{referenceLine, referenceAfter}
-use Rattle.preface.specs.declared.unit_line.UnitLine.{UnitLine}
-use Rattle.preface.specs.declared.unit_line.UnitLine.the-variants as unit
-use Rattle.preface.specs.declared.pair_line.PairLine.{PairLine}
-use Rattle.preface.specs.declared.pair_line.PairLine.the-variants as pair
-use Rattle.preface.specs.declared.reference_line.ReferenceLine.{ReferenceLine}
-use Rattle.preface.specs.declared.reference_line.ReferenceLine.the-variants as reference
+use Rattle.front.specs.UnitLine.{unitLine}
+use Rattle.front.specs.PairLine.{pairLine, tableAfter}
+use Rattle.front.specs.ReferenceLine.{referenceLine, referenceAfter}
+use Rattle.front.specs.declared.unit_line.UnitLine.{UnitLine}
+use Rattle.front.specs.declared.unit_line.UnitLine.the-variants as unit
+use Rattle.front.specs.declared.pair_line.PairLine.{PairLine}
+use Rattle.front.specs.declared.pair_line.PairLine.the-variants as pair
+use Rattle.front.specs.declared.reference_line.ReferenceLine.{ReferenceLine}
+use Rattle.front.specs.declared.reference_line.ReferenceLine.the-variants as reference
 use Rattle.lampbuckle.specs.Answer.{Outcome, answers, refuses}
 use Rattle.lampbuckle.specs.Numbers.{unitLength, unitNumbers}
 

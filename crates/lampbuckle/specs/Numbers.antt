@@ -10,7 +10,7 @@ use Rattle.unit.specs.Unit.{mostRecords, unitRefusal}
 use Rattle.unit.specs.State.{subsequences}
 use Rattle.unit.specs.declared.Unit.{Unit}
 use Rattle.unit.specs.declared.State.{State}
-use Rattle.remains.specs.declared.keep.Keep.{Keep}
+use Rattle.kept.specs.declared.keep.Keep.{Keep}
 
 -- how many numbers a unit is
 abbrev pub unitLength : ℕ

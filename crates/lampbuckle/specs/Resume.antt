@@ -8,15 +8,15 @@ use lib.ListN.{length, getD}
 use Rattle.refusal.specs.Numbers.{countOut, missing}
 use Rattle.unit.specs.State.{subsequences}
 use Rattle.unit.specs.declared.State.{State}
-use Rattle.remains.specs.Keep.{keepAll}
+use Rattle.kept.specs.Keep.{keepAll}
 use Rattle.resuming.specs.Pass.{passOver}
 use Rattle.listing.specs.Resuming.{edgesFrom, placeBy}
 use Rattle.resuming.specs.Last.{placedOf, numberOf}
-use Rattle.remains.specs.declared.keep.Keep.{Keep}
+use Rattle.kept.specs.declared.keep.Keep.{Keep}
 use Rattle.resuming.specs.declared.pass.Passed.{Passed}
 use Rattle.resuming.specs.declared.place.Go.{Go}
 use Rattle.resuming.specs.declared.place.Go.the-variants.{Afresh, Second, On, Over, Refused}
-use Rattle.resuming.specs.declared.place.Placed.{Placed}
+use Rattle.resuming.specs.declared.place.WhereTo.{WhereTo}
 use Rattle.lampbuckle.specs.Answer.{Outcome, answers, refuses}
 use Rattle.lampbuckle.specs.Numbers.{stateLength, stateNumbers, keepLength, flag, keepNumbers, keepOf}
 
@@ -46,7 +46,7 @@ byGo Over next lent = goesOn 3 next
 byGo (Refused n) next lent = refuses (numberOf (Refused n)) (lent ∷ [])
 
 -- the answer of `place`, as numbers
-abbrev pub placeAnswered : Placed → List ℕ → Outcome
+abbrev pub placeAnswered : WhereTo → List ℕ → Outcome
 placeAnswered p lent = byGo (p .go) (p .state) lent
 
 -- counts of another shape are refused by 4, a state by 14; then 15 and 16

@@ -9,7 +9,7 @@ use Rattle.refusal.specs.Numbers.{fine, noRoom}
 use Rattle.writing.specs.Whole.{wroteOf, lineInto}
 use Rattle.writing.specs.declared.lay.Wrote.{Wrote}
 use Rattle.writing.specs.declared.lay.Wrote.the-variants.{Line, NoRoom}
-use Rattle.preface.specs.UnitLine.{unitBytes}
+use Rattle.front.specs.UnitLine.{unitBytes}
 use Rattle.lampbuckle.specs.Answer.{Outcome, outcome, minus, refuses}
 use Rattle.lampbuckle.specs.Numbers.{unitOf, unitNumbersRefusal}
 

@@ -2,12 +2,12 @@
 use crate::answer::counted;
 use crate::answer::refused;
 use crate::numbers;
-use preface::pair_line;
-use preface::pair_line::PairLine;
-use preface::reference_line;
-use preface::reference_line::ReferenceLine;
-use preface::unit_line;
-use preface::unit_line::UnitLine;
+use front::pair_line;
+use front::pair_line::PairLine;
+use front::reference_line;
+use front::reference_line::ReferenceLine;
+use front::unit_line;
+use front::unit_line::UnitLine;
 use unit::State;
 ghost use mathlib.Core.Path.{_≡_};
 ghost use mathlib.Core.List.{[], _∷_};

@@ -1,5 +1,5 @@
 // A unit, a state, counts and what is known of a found file, as the numbers that a caller lends.
-use remains::keep::Keep;
+use kept::keep::Keep;
 use unit::State;
 use unit::Unit;
 ghost use mathlib.Core.Path.{_≡_};

@@ -3,7 +3,7 @@ use crate::answer::counted;
 use crate::answer::refused;
 use crate::numbers;
 use resuming::place::Go;
-use resuming::place::Placed;
+use resuming::place::WhereTo;
 use unit::State;
 ghost use mathlib.Core.Path.{_≡_};
 ghost use mathlib.Core.List.{[], _∷_};
@@ -49,7 +49,7 @@ fn go_on(number: usize, next: State, state: &mut [u32]) -> i64
 }
 
 // A place that was found, by its number, with the state to go on from; or the refusal.
-fn settle(p: Placed, state: &mut [u32]) -> i64
+fn settle(p: WhereTo, state: &mut [u32]) -> i64
     requires { ⌜ length (now state) ≡ stateLength ⌝ }
     ensures { λ r. ⌜ outcome r (now (state .exit) ∷ []) ≡ byGo (p .go) (p .state) (now (state .entry)) ⌝ }
 {

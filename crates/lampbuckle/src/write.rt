@@ -2,8 +2,8 @@
 use crate::answer::counted;
 use crate::answer::refused;
 use crate::numbers;
+use front::unit_line;
 use listing::close;
-use preface::unit_line;
 use writing::lay::Wrote;
 ghost use mathlib.Core.Path.{_≡_};
 ghost use mathlib.Core.List.{[], _∷_};

@@ -2,14 +2,14 @@
 // A listing that ends in 05 is an answer like any other. What goes wrong outside of the lines, such as a file that is not there, is said on standard error.
 use libc::STDERR_FILENO;
 use libc::STDOUT_FILENO;
+use opening::files::FrontRead;
+use opening::files::open;
 use opening::first::with_first;
-use opening::front::Front;
-use opening::front::open;
 use program::args::asks_help;
 use program::args::is_whole;
 use program::sink::Sink;
-use supply::rest::finish;
-use supply::rest::rest;
+use rest::finish;
+use rest::rest;
 use unit::State;
 use unit::Unit;
 
@@ -32,7 +32,7 @@ fn list(reference_path: &[u8], unit_path: &[u8]) {
         &mut symbols,
     );
     let front = opened.front;
-    if let Front::Unread = front {
+    if let FrontRead::Unread = front {
         return;
     }
     let sink = with_first(Sink::new(), &mut out, front);

@@ -14,7 +14,7 @@ use Rattle.listing.specs.Lines.{joined, kept, linesWithin}
 use Rattle.unit.specs.Listed.{mostListed, numberPlace}
 use Rattle.listing.specs.Record.{Setup, Lawful}
 use Rattle.listing.specs.Listing.{Front, ready, line05, firstOf, restOf, listed, listing, LawfulFront}
-use Rattle.listing.specs.Resuming.{bytes05, bytes06, stateAt, nothing, edges, edgesFrom, ListedLine, ClosingLine, Continues, placeBy, add, refuse, skip, onSkip, supply, edgesIn, supplied, printed, noRecord, resumed, torn, resumedAgain}
+use Rattle.listing.specs.Resuming.{bytes05, bytes06, stateAt, nothing, edges, edgesFrom, ContinuableLine, ClosingLine, Continues, placeBy, add, refuse, skip, onSkip, supply, edgesIn, supplied, printed, noRecord, resumed, torn, resumedAgain}
 use Rattle.listing.specs.Turn.{run}
 use Rattle.listing.proofs.ListingLaws.{listing-kept}
 use Rattle.listing.proofs.ResumeLaws.{resume-whole, resume-exact, resume-again}
@@ -81,18 +81,18 @@ pub nothing-after-06 : (F : Front) → LawfulFront F → (last : List ℕ) → C
 nothing-after-06 = closed-06
 
 -- a well-formed 04 line is believed, whatever its record was: its number says how many 0A are passed over, and its indexes the state
-pub well-formed-is-believed : (E : Setup) → Lawful E → (last : List ℕ) → ListedLine (E .count) (E .counts) last
+pub well-formed-is-believed : (E : Setup) → Lawful E → (last : List ℕ) → ContinuableLine (E .count) (E .counts) last
     → supply (ready E) (edges (E .first) last) ≡ add (joined (onSkip E (stateAt (unhex last)) (skip (bigAt 2 (unhex last) numberPlace + 1) (E .lines))))
 well-formed-is-believed = believed
 
 -- where there are as many record lines, one call a line from that state, and one turn more, print what is added
-pub one-call-a-line-goes-on : (E : Setup) → Lawful E → (last : List ℕ) → ListedLine (E .count) (E .counts) last
+pub one-call-a-line-goes-on : (E : Setup) → Lawful E → (last : List ℕ) → ContinuableLine (E .count) (E .counts) last
     → (ls : List (List ℕ)) → skip (bigAt 2 (unhex last) numberPlace + 1) (E .lines) ≡ some ls
     → supply (ready E) (edges (E .first) last) ≡ add (run E (suc (E .count - (bigAt 2 (unhex last) numberPlace + 1))) (stateAt (unhex last)) ls)
 one-call-a-line-goes-on = goes-on
 
 -- where the record lines run out before its number, 05 with the next number and 14 is added
-pub lines-run-out : (E : Setup) → Lawful E → (last : List ℕ) → ListedLine (E .count) (E .counts) last
+pub lines-run-out : (E : Setup) → Lawful E → (last : List ℕ) → ContinuableLine (E .count) (E .counts) last
     → skip (bigAt 2 (unhex last) numberPlace + 1) (E .lines) ≡ none
     → supply (ready E) (edges (E .first) last) ≡ add (line05 (bigAt 2 (unhex last) numberPlace + 1) missing)
 lines-run-out = run-out

@@ -27,7 +27,7 @@ use Rattle.unit.specs.declared.State.{State}
 use Rattle.unit.specs.Kinds.{kindListed, kindRefused, kindDone}
 use Rattle.unit.specs.Listed.{mostListed, leastListed, numberPlace, indexPlace}
 use Rattle.listing.specs.Listing.{frame05, line05, frame06, line06}
-use Rattle.listing.specs.Resuming.{Last, goOn, whole, bad, bytes05, bytes06, wordsAt, stateAt, listedLast, frameLast, lastOf, ListedLine, ClosingLine, Closes}
+use Rattle.listing.specs.Resuming.{Last, goOn, whole, bad, bytes05, bytes06, wordsAt, stateAt, listedLast, frameLast, lastOf, ContinuableLine, ClosingLine, Closes}
 
 -- ---- the numbers of a frame, one by one
 
@@ -192,10 +192,10 @@ fields-within counts bs e i h = rw (← wordsAt-each subsequences bs indexPlace 
 
 -- a line, sorted by what it says
 pub data Sorted (count : ℕ) (counts line : List ℕ) : Last → Type 0 where
-  listed : ListedLine count counts line → Sorted count counts line (goOn (stateAt (unhex line)))
+  listed : ContinuableLine count counts line → Sorted count counts line (goOn (stateAt (unhex line)))
   closed05 : ClosingLine kindRefused bytes05 line → Sorted count counts line whole
   closed06 : ClosingLine kindDone bytes06 line → Sorted count counts line whole
-  other : (ListedLine count counts line → ⊥) → (ClosingLine kindRefused bytes05 line → ⊥) → (ClosingLine kindDone bytes06 line → ⊥) → Sorted count counts line bad
+  other : (ContinuableLine count counts line → ⊥) → (ClosingLine kindRefused bytes05 line → ⊥) → (ClosingLine kindDone bytes06 line → ⊥) → Sorted count counts line bad
 
 module _ (count : ℕ) (counts line : List ℕ) (all : length counts ≡ subsequences) where
   module _ (n : ℕ) (e : lineWithin mostListed line ≡ Frame n) where
@@ -207,7 +207,7 @@ module _ (count : ℕ) (counts line : List ℕ) (all : length counts ≡ subsequ
     digits m q = e ∙ ap Frame (size n e ∙ q)
 
     -- of another kind
-    not-listed : (getD (unhex line) 0 0 ≡ kindListed → ⊥) → ListedLine count counts line → ⊥
+    not-listed : (getD (unhex line) 0 0 ≡ kindListed → ⊥) → ContinuableLine count counts line → ⊥
     not-listed h w = h (w .kind)
 
     not-closed : (k b : ℕ) → (getD (unhex line) 0 0 ≡ k → ⊥) → ClosingLine k b line → ⊥
@@ -278,7 +278,7 @@ module _ (count : ℕ) (counts line : List ℕ) (all : length counts ≡ subsequ
 
   -- and back: what each sort of line says
 
-  pub said-listed : ListedLine count counts line → lastOf count counts line ≡ goOn (stateAt (unhex line))
+  pub said-listed : ContinuableLine count counts line → lastOf count counts line ≡ goOn (stateAt (unhex line))
   said-listed w = by sorted
     where
       by : {t : Last} → Sorted count counts line t → t ≡ goOn (stateAt (unhex line))

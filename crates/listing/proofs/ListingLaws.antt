@@ -21,7 +21,7 @@ use Rattle.unit.specs.State.{subsequences, freshState}
 use Rattle.unit.specs.declared.State.{State}
 use Rattle.unit.specs.Kinds.{kindListed, kindRefused, kindDone}
 use Rattle.listing.specs.Lines.{linesOf, joined, kept, linesWithin, same}
-use Rattle.unit.specs.Listed.{mostListed, headOf, words, Step, refused, accepted}
+use Rattle.unit.specs.Listed.{mostListed, listedHead, words, Step, refused, accepted}
 use Rattle.listing.specs.Record.{Setup, Accepted, FirstLine, Lawful}
 use Rattle.listing.specs.Listing.{Front, alone, unpaired, ready, frame05, line05, frame06, line06, lastLine, onStep, records, firstOf, restOf, listed, listing, LawfulFront, onAccepted, stateBehind, Each, none, one, ListingLine, Numbered, Finished}
 use Rattle.listing.specs.Resuming.{lastFrom, bytes05, bytes06, ClosingLine, Closes, torn}
@@ -160,9 +160,9 @@ listing-17 F w = each no-17 (entries F w)
 
 -- the number of an accepted record stands in its line
 accepted-number : {E : Setup} → Lawful E → {s : State} {l frame : List ℕ} {u : State} → Accepted E s l frame u → Numbered (s .number) (lineOfBytes frame)
-unfolding headOf be
+unfolding listedHead be
 accepted-number {E} w {s} {l} {frame} {u} a =
-    let front : headOf (s .number) u ++ a .tail ≡ be 1 kindListed ++ (be 2 (s .number) ++ (words (u .index) ++ a .tail)) = simp append-assoc in
+    let front : listedHead (s .number) u ++ a .tail ≡ be 1 kindListed ++ (be 2 (s .number) ++ (words (u .index) ++ a .tail)) = simp append-assoc in
     record {
       kind = rw (unhex-line frame (a .bytes)) (accepted-kind a);
       is =

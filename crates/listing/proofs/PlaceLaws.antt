@@ -20,7 +20,7 @@ use Rattle.listing.specs.Lines.{joined, same}
 use Rattle.unit.specs.Listed.{mostListed, numberPlace, indexPlace}
 use Rattle.listing.specs.Record.{Setup, Lawful}
 use Rattle.listing.specs.Listing.{Front, alone, unpaired, ready, line05, firstOf, restOf, listing, LawfulFront}
-use Rattle.listing.specs.Resuming.{Last, whole, bytes05, bytes06, stateAt, lastOf, nothing, edges, edgesFrom, onLast, placeBy, countOf, countsOf, place, ListedLine, ClosingLine, Continues, isFirst, isListed, isRefused, isDone, add, refuse, skip, onSkip, suppliedFrom, added, supply}
+use Rattle.listing.specs.Resuming.{Last, whole, bytes05, bytes06, stateAt, lastOf, nothing, edges, edgesFrom, onLast, placeBy, countOf, countsOf, place, ContinuableLine, ClosingLine, Continues, isFirst, isListed, isRefused, isDone, add, refuse, skip, onSkip, suppliedFrom, added, supply}
 use Rattle.listing.proofs.LinesLaws.{same-refl, same-true, same-false, same-not, same-near}
 use Rattle.listing.specs.Turn.{run}
 use Rattle.listing.proofs.TurnLaws.{run-records}
@@ -65,7 +65,7 @@ last-refused F w z h = behind-first F z (λ e. h (isFirst e)) ∙ by (sorted (co
     by (other a b d) = refl
 
 -- no 04 line can be continued where the front of the files is refused
-no-record : (F : Front) (s : State) (n : ℕ) (z : List ℕ) → ListedLine (countOf F) (countsOf F) z → suppliedFrom F s ≡ refuse n → ⊥
+no-record : (F : Front) (s : State) (n : ℕ) (z : List ℕ) → ContinuableLine (countOf F) (countsOf F) z → suppliedFrom F s ≡ refuse n → ⊥
 unfolding countOf suppliedFrom
 no-record (alone m) s n z v e = omega (arith, v .in-count)
 no-record (unpaired first m) s n z v e = omega (arith, v .in-count)
@@ -100,7 +100,7 @@ refused-only F w a z n e =
         by (closed06 v) q = never q
         by (other b c d) q = (number q, p, none-fits b c d)
           where
-            none-fits : (ListedLine (countOf F) (countsOf F) z → ⊥) → (ClosingLine kindRefused bytes05 z → ⊥) → (ClosingLine kindDone bytes06 z → ⊥) → Continues F z → ⊥
+            none-fits : (ContinuableLine (countOf F) (countsOf F) z → ⊥) → (ClosingLine kindRefused bytes05 z → ⊥) → (ClosingLine kindDone bytes06 z → ⊥) → Continues F z → ⊥
             none-fits b c d (isFirst x) = h x
             none-fits b c d (isListed x) = b x
             none-fits b c d (isRefused x) = c x
@@ -132,7 +132,7 @@ closed-06 F w z v = closing F w z (said-closes (countOf F) (countsOf F) z (count
 
 -- ---- a well-formed 04 line is believed
 
-pub believed : (E : Setup) → Lawful E → (z : List ℕ) → ListedLine (E .count) (E .counts) z
+pub believed : (E : Setup) → Lawful E → (z : List ℕ) → ContinuableLine (E .count) (E .counts) z
     → supply (ready E) (edges (E .first) z) ≡ add (joined (onSkip E (stateAt (unhex z)) (skip (bigAt 2 (unhex z) numberPlace + 1) (E .lines))))
 unfolding firstOf countOf countsOf added suppliedFrom stateAt
 believed E w z v =
@@ -140,7 +140,7 @@ believed E w z v =
     ∙ rw (said-listed (E .count) (E .counts) z (w .counts-all) v)
 
 -- where there are as many record lines, a program goes on behind them
-pub goes-on : (E : Setup) → Lawful E → (z : List ℕ) → ListedLine (E .count) (E .counts) z → (ls : List (List ℕ)) → skip (bigAt 2 (unhex z) numberPlace + 1) (E .lines) ≡ some ls
+pub goes-on : (E : Setup) → Lawful E → (z : List ℕ) → ContinuableLine (E .count) (E .counts) z → (ls : List (List ℕ)) → skip (bigAt 2 (unhex z) numberPlace + 1) (E .lines) ≡ some ls
     → supply (ready E) (edges (E .first) z) ≡ add (run E (suc (E .count - (bigAt 2 (unhex z) numberPlace + 1))) (stateAt (unhex z)) ls)
 unfolding stateAt
 goes-on E w z v ls e =
@@ -148,7 +148,7 @@ goes-on E w z v ls e =
     ∙ rw e (ap add (sym (run-records w (E .count - (bigAt 2 (unhex z) numberPlace + 1)) (stateAt (unhex z)) ls (length-wordsAt subsequences (unhex z) indexPlace) (omega (arith, v .in-count)))))
 
 -- where the record lines up to its number run out
-pub run-out : (E : Setup) → Lawful E → (z : List ℕ) → ListedLine (E .count) (E .counts) z → skip (bigAt 2 (unhex z) numberPlace + 1) (E .lines) ≡ none
+pub run-out : (E : Setup) → Lawful E → (z : List ℕ) → ContinuableLine (E .count) (E .counts) z → skip (bigAt 2 (unhex z) numberPlace + 1) (E .lines) ≡ none
     → supply (ready E) (edges (E .first) z) ≡ add (line05 (bigAt 2 (unhex z) numberPlace + 1) missing)
 unfolding joined stateAt
 run-out E w z v e = believed E w z v ∙ rw e (ap add (append-nil (line05 (bigAt 2 (unhex z) numberPlace + 1) missing)))

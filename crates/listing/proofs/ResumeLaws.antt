@@ -19,10 +19,10 @@ use Rattle.unit.specs.State.{subsequences, freshState}
 use Rattle.unit.specs.declared.State.{State}
 use Rattle.unit.specs.Kinds.{kindUnit, kindListed}
 use Rattle.listing.specs.Lines.{linesOf, joined, ends, kept, WholeLine, same}
-use Rattle.unit.specs.Listed.{headOf, Step, refused, accepted, numberPlace}
+use Rattle.unit.specs.Listed.{listedHead, Step, refused, accepted, numberPlace}
 use Rattle.listing.specs.Record.{Setup, Accepted, FirstLine, Lawful}
 use Rattle.listing.specs.Listing.{Front, alone, unpaired, ready, frame05, line05, frame06, line06, lastLine, onStep, records, firstOf, restOf, listing, LawfulFront}
-use Rattle.listing.specs.Resuming.{goOn, stateAt, lastOf, lastFrom, edgesOf, second, onLast, countOf, countsOf, place, Answer, add, skip, suppliedFrom, added, supply, supplied, resumed, torn, resumedAgain}
+use Rattle.listing.specs.Resuming.{goOn, stateAt, lastOf, lastFrom, edgesOf, second, onLast, countOf, countsOf, place, Supplied, add, skip, suppliedFrom, added, supply, supplied, resumed, torn, resumedAgain}
 use Rattle.listing.proofs.LinesLaws.{same-refl, same-false, whole-bytes, whole-frame, whole-ends, lines-line, kept-zeros, Cut, inside, beyond, kept-cut}
 use Rattle.listing.proofs.WordLaws.{state-head}
 use Rattle.unit.proofs.StateLaws.{within-all}
@@ -79,7 +79,7 @@ skip-more (suc j) (m ∷ ms) {l} {ls} e h = by (ends m) e (λ e. skip-more j ms 
 -- ---- lines of which resuming knows what follows
 
 -- what is supplied behind a last kept line
-abbrev after : Front → List ℕ → Answer
+abbrev after : Front → List ℕ → Supplied
 after F z = added F (cond (same z (firstOf F)) second (onLast (lastOf (countOf F) (countsOf F) z)))
 
 data Good (F : Front) : List (List ℕ) → Type 0 where
@@ -91,7 +91,7 @@ unfolding stateAt
 state-number frame t e = ap (λ (x : State). x .number) e
 
 pub accepted-kind : {E : Setup} {s : State} {l frame : List ℕ} {t : State} → Accepted E s l frame t → getD frame 0 0 ≡ kindListed
-unfolding headOf be
+unfolding listedHead be
 accepted-kind a = rw (a .head) refl
 
 -- the 04 line of an accepted record says the state behind it

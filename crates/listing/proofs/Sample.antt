@@ -19,13 +19,13 @@ use Rattle.unit.specs.State.{subsequences, within}
 use Rattle.unit.specs.declared.State.{State}
 use Rattle.unit.specs.Kinds.{kindUnit}
 use Rattle.listing.specs.Lines.{pushByte, linesOf, joined, ends, keptWith, kept, same}
-use Rattle.unit.specs.Listed.{Step, refused, accepted, words, headOf}
+use Rattle.unit.specs.Listed.{Step, refused, accepted, words, listedHead}
 use Rattle.listing.specs.Record.{Setup, Accepted, FirstLine, Lawful}
 use Rattle.listing.proofs.ResumeLaws.{first-line}
 use Rattle.unit.proofs.ListedLaws.{bytes-head, length-head}
 use Rattle.frame.proofs.HexLaws.{bytes-append}
 use Rattle.listing.specs.Listing.{Front, ready, line05, lastLine, records, firstOf, restOf, listing}
-use Rattle.listing.specs.Resuming.{wordsAt, stateAt, listedLast, frameLast, lastOf, lastFrom, edgesOf, countOf, countsOf, place, Answer, add, refuse, skip, suppliedFrom, added, supply, supplied, torn}
+use Rattle.listing.specs.Resuming.{wordsAt, stateAt, listedLast, frameLast, lastOf, lastFrom, edgesOf, countOf, countsOf, place, Supplied, add, refuse, skip, suppliedFrom, added, supply, supplied, torn}
 
 -- two records, no pair symbols; every well-formed line is accepted
 abbrev toyCount : ℕ
@@ -36,7 +36,7 @@ toyNext s = record { number = s .number + 1; index = replicate subsequences 0 }
 
 -- nine bytes behind the head: the fewest that an 04 line can have
 abbrev toyFrame : State → List ℕ
-toyFrame s = headOf (s .number) (toyNext s) ++ replicate 9 1
+toyFrame s = listedHead (s .number) (toyNext s) ++ replicate 9 1
 
 abbrev onToy : State → Line → Step
 onToy s (Frame n) = accepted (toyFrame s) (toyNext s)
@@ -62,13 +62,13 @@ ones = omega arith
 
 toy-accepted : (ls : List (List ℕ)) (s : State) (l : List ℕ) (m : ℕ) → s .number < toyCount → lineOf l ≡ Frame m → Accepted (toy ls) s l (toyFrame s) (toyNext s)
 toy-accepted ls s l m h e =
-    let long : length (toyFrame s) ≡ 28 = omega (arith, length-append (headOf (s .number) (toyNext s)) (replicate 9 1), length-head (s .number) (toyNext s)) in
+    let long : length (toyFrame s) ≡ 28 = omega (arith, length-append (listedHead (s .number) (toyNext s)) (replicate 9 1), length-head (s .number) (toyNext s)) in
     record {
       size = m;
       well-formed = e;
       tail = replicate 9 1;
       head = refl;
-      bytes = bytes-append (headOf (s .number) (toyNext s)) (replicate 9 1) (bytes-head (s .number) (toyNext s)) ones;
+      bytes = bytes-append (listedHead (s .number) (toyNext s)) (replicate 9 1) (bytes-head (s .number) (toyNext s)) ones;
       least = omega arith;
       most = omega arith;
       in-count = h;
@@ -120,7 +120,7 @@ unfolding listing firstOf restOf records linesOf pushByte line05 lineWithin allD
 sample-listed = refl
 
 -- what is supplied, for each file that is found
-abbrev answers : List (List ℕ) → List Answer
+abbrev answers : List (List ℕ) → List Supplied
 answers [] = []
 answers (f ∷ fs) = supplied sample f ∷ answers fs
 
@@ -128,5 +128,5 @@ answers (f ∷ fs) = supplied sample f ∷ answers fs
 -- with a false line of the second record: it is believed, and its record line has no 0A, so the lines run out
 samples : answers (torn 30 3 (listing sample) ∷ torn 64 3 (listing sample) ∷ (lineOfBytes (kindUnit ∷ 4 ∷ []) ++ toyLine 0) ∷ (toyUnit ++ toyLine 2) ∷ (toyUnit ++ toyLine 1) ∷ [])
     ≡ add (joined (toyLine 0 ∷ line05 1 malformed ∷ [])) ∷ add (joined (line05 1 malformed ∷ [])) ∷ refuse otherFirst ∷ refuse otherLast ∷ add (joined (line05 2 missing ∷ [])) ∷ []
-unfolding listing joined firstOf restOf records lastLine linesOf pushByte line05 lineWithin allDigits isDigit kept keptWith headOf words be hexOf unhex glyph nib bigAt supply place added suppliedFrom skip edgesOf lastFrom countOf countsOf lastOf frameLast listedLast stateAt wordsAt within same ends
+unfolding listing joined firstOf restOf records lastLine linesOf pushByte line05 lineWithin allDigits isDigit kept keptWith listedHead words be hexOf unhex glyph nib bigAt supply place added suppliedFrom skip edgesOf lastFrom countOf countsOf lastOf frameLast listedLast stateAt wordsAt within same ends
 samples = refl

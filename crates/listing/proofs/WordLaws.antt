@@ -10,7 +10,7 @@ use Rattle.frame.proofs.HexLaws.{length-be}
 use Rattle.frame.proofs.FieldLaws.{field-back}
 use Rattle.unit.specs.State.{subsequences}
 use Rattle.unit.specs.declared.State.{State}
-use Rattle.unit.specs.Listed.{words, headOf}
+use Rattle.unit.specs.Listed.{words, listedHead}
 use Rattle.listing.specs.Resuming.{wordsAt, stateAt}
 
 -- ---- read back
@@ -27,8 +27,8 @@ words-back pre (x ∷ xs) tail h =
 
 -- the head of an 04 line says the state behind its record
 pub state-head : (number : ℕ) (next : State) (tail : List ℕ) → number < 65536 → ((i : ℕ) → getD (next .index) i 0 < 65536)
-    → length (next .index) ≡ subsequences → next .number ≡ number + 1 → stateAt (headOf number next ++ tail) ≡ next
-unfolding stateAt headOf be
+    → length (next .index) ≡ subsequences → next .number ≡ number + 1 → stateAt (listedHead number next ++ tail) ≡ next
+unfolding stateAt listedHead be
 state-head number next tail fits each eight e =
     let front : be 1 4 ++ be 2 number ++ words (next .index) ++ tail ≡ be 1 4 ++ (be 2 number ++ (words (next .index) ++ tail)) = simp append-assoc in
     let back : be 1 4 ++ be 2 number ++ words (next .index) ++ tail ≡ be 1 4 ++ be 2 number ++ (words (next .index) ++ tail) = append-assoc (be 1 4 ++ be 2 number) (words (next .index)) tail in

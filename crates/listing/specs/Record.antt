@@ -12,7 +12,7 @@ use Rattle.unit.specs.Unit.{mostRecords}
 use Rattle.unit.specs.State.{subsequences, mostSymbols}
 use Rattle.unit.specs.declared.State.{State}
 use Rattle.unit.specs.Kinds.{kindUnit}
-use Rattle.unit.specs.Listed.{mostListed, leastListed, headOf, Step, refused, accepted}
+use Rattle.unit.specs.Listed.{mostListed, leastListed, listedHead, Step, refused, accepted}
 
 -- a unit whose unit line, pair lines and reference are all accepted
 pub record Setup : Type 0 where
@@ -31,7 +31,7 @@ pub record Accepted (E : Setup) (s : State) (line frame : List ℕ) (next : Stat
   pub size : ℕ
   pub well-formed : lineOf line ≡ Frame size
   pub tail : List ℕ
-  pub head : frame ≡ headOf (s .number) next ++ tail
+  pub head : frame ≡ listedHead (s .number) next ++ tail
   pub bytes : Bytes frame
   pub least : leastListed ≤ length frame
   pub most : 2 * length frame ≤ mostListed

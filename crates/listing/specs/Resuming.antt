@@ -128,7 +128,7 @@ unfoldable pub place : Front → Edges → Place
 place F e = placeBy (firstOf F) (countOf F) (countsOf F) e
 
 -- an 04 line that can be continued, said field by field: the u16 at byte 1 is its record number, the u16 at byte 3 + 2 i its i-th index
-pub record ListedLine (count : ℕ) (counts line : List ℕ) : Type 0 where
+pub record ContinuableLine (count : ℕ) (counts line : List ℕ) : Type 0 where
   pub bytes : ℕ
   pub digits : lineWithin mostListed line ≡ Frame bytes
   pub kind : getD (unhex line) 0 0 ≡ kindListed
@@ -148,16 +148,16 @@ Closes line = ClosingLine kindRefused bytes05 line ⊎ ClosingLine kindDone byte
 -- the lines that document 01 lets be continued
 pub data Continues (F : Front) (line : List ℕ) : Type 0 where
   isFirst : line ≡ firstOf F → Continues F line
-  isListed : ListedLine (countOf F) (countsOf F) line → Continues F line
+  isListed : ContinuableLine (countOf F) (countsOf F) line → Continues F line
   isRefused : ClosingLine kindRefused bytes05 line → Continues F line
   isDone : ClosingLine kindDone bytes06 line → Continues F line
 
 -- ---- what is supplied
 
 -- the bytes to add behind the kept ones, or a refusal number
-pub data Answer : Type 0 where
-  add : List ℕ → Answer
-  refuse : ℕ → Answer
+pub data Supplied : Type 0 where
+  add : List ℕ → Supplied
+  refuse : ℕ → Supplied
 
 -- "After an 04 line the record lines up to its number are passed over by their 0A only": what stands behind the j-th 0A, if there are so many
 unfoldable pub skip : ℕ → List (List ℕ) → Option (List (List ℕ))
@@ -171,13 +171,13 @@ onSkip E s none = line05 (s .number) missing ∷ []
 onSkip E s (some ls) = records E (E .count - s .number) s ls
 
 -- what is supplied behind an 04 line, from the state behind its record; where no record is read, `place` never answers `on`, for no number is below a count of 0
-unfoldable pub suppliedFrom : Front → State → Answer
+unfoldable pub suppliedFrom : Front → State → Supplied
 suppliedFrom (alone n) s = refuse otherLast
 suppliedFrom (unpaired first n) s = refuse otherLast
 suppliedFrom (ready E) s = add (joined (onSkip E s (skip (s .number) (E .lines))))
 
 -- what is supplied at each place
-unfoldable pub added : Front → Place → Answer
+unfoldable pub added : Front → Place → Supplied
 added F afresh = add (listing F)
 added F second = add (joined (restOf F))
 added F (on s) = suppliedFrom F s
@@ -185,7 +185,7 @@ added F over = add []
 added F (no n) = refuse n
 
 -- what is supplied goes by the front of the files, the first and the last kept line alone
-unfoldable pub supply : Front → Edges → Answer
+unfoldable pub supply : Front → Edges → Supplied
 supply F e = added F (place F e)
 
 -- the first and the last kept line of a found file
@@ -193,7 +193,7 @@ abbrev pub edgesIn : List ℕ → Edges
 edgesIn found = edgesOf (linesOf (kept found))
 
 -- what is supplied for a found file
-abbrev pub supplied : Front → List ℕ → Answer
+abbrev pub supplied : Front → List ℕ → Supplied
 supplied F found = supply F (edgesIn found)
 
 -- the record number of a refused resume
@@ -201,7 +201,7 @@ abbrev pub noRecord : ℕ
 noRecord = 65535
 
 -- what the resume program prints: the kept lines, then the missing ones; "a refused resume prints only 05, ffff and its number"
-abbrev pub printed : List ℕ → Answer → List ℕ
+abbrev pub printed : List ℕ → Supplied → List ℕ
 printed k (add more) = k ++ more
 printed k (refuse n) = line05 noRecord n
 

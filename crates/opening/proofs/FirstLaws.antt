@@ -5,15 +5,15 @@ use mathlib.Core.Path.{_≡_}
 use mathlib.Core.List.{List}
 use lib.ListN.{length}
 use Rattle.writing.specs.declared.lay.Wrote.the-variants.{Line}
-use Rattle.preface.specs.UnitLine.{unitBytes}
+use Rattle.front.specs.UnitLine.{unitBytes}
 use Rattle.listing.specs.Listing.{frame05}
 use Rattle.writing.proofs.WholeLaws.{no-room-is-not, wrote-within}
 use Rattle.opening.specs.First.{firstWrote}
-use Rattle.opening.specs.declared.front.Front.{Front}
-use Rattle.opening.specs.declared.front.Front.the-variants.{Unread, Alone, Unpaired, Ready}
+use Rattle.opening.specs.declared.files.FrontRead.{FrontRead}
+use Rattle.opening.specs.declared.files.FrontRead.the-variants.{Unread, Alone, Unpaired, Ready}
 
 -- a first line that is written lies in what is lent
-pub first-within : (s : List ℕ) (front : Front) (n : ℕ) → firstWrote s front ≡ Line n → n ≤ length s
+pub first-within : (s : List ℕ) (front : FrontRead) (n : ℕ) → firstWrote s front ≡ Line n → n ≤ length s
 unfolding firstWrote
 first-within s Unread n e = absurd (no-room-is-not n e)
 first-within s (Alone k) n e = wrote-within s (frame05 0 k) n e

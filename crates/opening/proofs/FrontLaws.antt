@@ -4,9 +4,9 @@ use Prim.Native.Nat.{ℕ}
 use native.Mathlib.Omega.{arith}
 use mathlib.Core.Path.{_≡_, sym}
 use mathlib.Core.List.{List}
-use Rattle.preface.specs.ReferenceLine.{referenceLine}
-use Rattle.preface.specs.declared.reference_line.ReferenceLine.the-variants.{Bases}
-use Rattle.preface.proofs.ReferenceLaws.{reference-accepted}
+use Rattle.front.specs.ReferenceLine.{referenceLine}
+use Rattle.front.specs.declared.reference_line.ReferenceLine.the-variants.{Bases}
+use Rattle.front.proofs.ReferenceLaws.{reference-accepted}
 use Rattle.opening.specs.Front.{Grown}
 
 pub reference-grows : (line : List ℕ) (used places n : ℕ) → referenceLine line used places ≡ Bases n → Grown used n

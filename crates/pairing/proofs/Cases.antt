@@ -73,34 +73,34 @@ module _ (classId bound : ℕ) where
   abbrev pub Below : ℕ → Type 0
   Below v = v < bound
 
-  abbrev pub Within : Steps → Type 0
-  Within p = Ends Below (LinkWithin bound) p
+  abbrev pub IndexesWithin : Steps → Type 0
+  IndexesWithin p = Ends Below (LinkWithin bound) p
 
   at-within : (sequence position : ℕ) → sequence ≤ largest16 → position < bound → MateWithin bound (mateAt classId sequence position)
   unfolding mateAt
   at-within sequence position h k = one-of (MateWithin bound) (eqb classId classU) _ _ tt (h, k)
 
-  split-within : (sequence N first : ℕ) → sequence ≤ largest16 → first ≤ 1 → Within (split classId sequence N first)
+  split-within : (sequence N first : ℕ) → sequence ≤ largest16 → first ≤ 1 → IndexesWithin (split classId sequence N first)
   unfolding split
   split-within sequence N first h l =
       λ position k. record { first = l; split = lit≤ tt; one = lit≤ tt; two = lit≤ tt; mate = at-within sequence position h k }
 
   -- in class U the mate is not looked at
-  split-unused : (sequence N first : ℕ) → eqb classId classU ≡ true → first ≤ 1 → Within (split classId sequence N first)
+  split-unused : (sequence N first : ℕ) → eqb classId classU ≡ true → first ≤ 1 → IndexesWithin (split classId sequence N first)
   unfolding split mateAt
   split-unused sequence N first u l =
       λ position k. record { first = l; split = lit≤ tt; one = lit≤ tt; two = lit≤ tt; mate = rw u tt }
 
-  diff-within : (N Q first : ℕ) → first ≤ 1 → Within (diff-ref-seq classId N Q first)
+  diff-within : (N Q first : ℕ) → first ≤ 1 → IndexesWithin (diff-ref-seq classId N Q first)
   unfolding diff-ref-seq
   diff-within N Q first l =
-      λ id _. by-test Within (eqb classId classU) _ _ (λ u. split-unused id Q first u l) (λ _ fits. split-within id Q first fits l)
+      λ id _. by-test IndexesWithin (eqb classId classU) _ _ (λ u. split-unused id Q first u l) (λ _ fits. split-within id Q first fits l)
 
-  pub table60-within : (seqId code : ℕ) → seqId ≤ largest16 → Within (table60 classId seqId code)
+  pub table60-within : (seqId code : ℕ) → seqId ≤ largest16 → IndexesWithin (table60 classId seqId code)
   unfolding same-rec
   table60-within seqId code h =
-      by-case Within classId seqId code
-      (one-of Within (eqb classId classU) _ _
+      by-case IndexesWithin classId seqId code
+      (one-of IndexesWithin (eqb classId classU) _ _
       record { first = lit≤ tt; split = lit≤ tt; one = lit≤ tt; two = lit≤ tt; mate = tt }
       (λ v _ fits. record { first = omega arith; split = lit≤ tt; one = lit≤ tt; two = lit≤ tt; mate = omega arith }))
       (split-within seqId 2 0 h (lit≤ tt))
@@ -111,7 +111,7 @@ module _ (classId bound : ℕ) where
       record { first = lit≤ tt; split = lit≤ tt; one = lit≤ tt; two = lit≤ tt; mate = tt }
       tt
 
-  pub HM-within : Within HM-same-rec
+  pub HM-within : IndexesWithin HM-same-rec
   unfolding HM-same-rec
   HM-within = λ v _ fits. record { first = omega arith; split = lit≤ tt; one = lit≤ tt; two = lit≤ tt; mate = tt }
 

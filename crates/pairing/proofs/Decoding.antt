@@ -13,7 +13,7 @@ use Rattle.refusal.specs.Numbers.{usedUp, codeOut, valueOut}
 use Rattle.unit.specs.declared.State.{State}
 use Rattle.unit.specs.Unit.{largest16}
 use Rattle.pairing.specs.declared.Link.{Link}
-use Rattle.pairing.specs.declared.Answer.the-variants.{Linked, Refused}
+use Rattle.pairing.specs.declared.LinkRead.the-variants.{Linked, Refused}
 use Rattle.pairing.specs.declared.Paired.{Paired}
 use Rattle.pairing.specs.Take.{taken, raised, symbolOf}
 use Rattle.pairing.specs.Table60.{Steps, sets, takes, within16, reserved}

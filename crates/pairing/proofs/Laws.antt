@@ -15,7 +15,7 @@ use Rattle.pairing.specs.declared.Taken.{Taken}
 use Rattle.pairing.specs.declared.Mate.{Mate}
 use Rattle.pairing.specs.declared.Mate.the-variants.{Unpaired}
 use Rattle.pairing.specs.declared.Link.{Link}
-use Rattle.pairing.specs.declared.Answer.the-variants.{Linked}
+use Rattle.pairing.specs.declared.LinkRead.the-variants.{Linked}
 use Rattle.pairing.specs.declared.Paired.{Paired}
 use Rattle.pairing.specs.Take.{taken, symbolOf, takeOf}
 use Rattle.pairing.specs.Table60.{Steps, mateSeqId, mappingPos}

@@ -12,7 +12,7 @@ use Rattle.pairing.specs.Pairing.{recordSteps, pairOf}
 use Rattle.pairing.specs.declared.Mate.{Mate}
 use Rattle.pairing.specs.declared.Mate.the-variants.{Unpaired, Near, Far}
 use Rattle.pairing.specs.declared.Link.{Link}
-use Rattle.pairing.specs.declared.Answer.the-variants.{Linked}
+use Rattle.pairing.specs.declared.LinkRead.the-variants.{Linked}
 use Rattle.pairing.proofs.Taking.{one-of}
 use Rattle.pairing.proofs.Decoding.{Ends, decode-ends}
 use Rattle.pairing.proofs.Cases.{by-case, Any}

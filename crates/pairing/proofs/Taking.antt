@@ -9,7 +9,7 @@ use borrow.Author.Tests.{leb-false}
 pub use Rattle.frame.proofs.Tests.{cond-of as by-test, one-of}
 use Rattle.unit.specs.declared.State.{State}
 use Rattle.unit.specs.State.{subsequences, symbolPlace}
-use Rattle.pairing.specs.declared.Found.the-variants.{Symbol}
+use Rattle.pairing.specs.declared.NextSymbol.the-variants.{Symbol}
 use Rattle.pairing.specs.declared.Taken.{Taken}
 use Rattle.pairing.specs.Take.{taken, raised, symbolOf, noneLeft, takeOf}
 

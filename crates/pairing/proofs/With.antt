@@ -8,13 +8,13 @@ use borrow.Author.Tests.{lt-ltb, le-ltb, eq-eqb, ne-eqb}
 use Rattle.refusal.specs.Numbers.{usedUp, codeOut, valueOut}
 use Rattle.unit.specs.declared.State.{State}
 use Rattle.unit.specs.Unit.{largest16}
-use Rattle.pairing.specs.declared.Found.the-variants.{Symbol, UsedUp}
+use Rattle.pairing.specs.declared.NextSymbol.the-variants.{Symbol, UsedUp}
 use Rattle.pairing.specs.declared.Taken.{Taken}
 use Rattle.pairing.specs.declared.Mate.{Mate}
 use Rattle.pairing.specs.declared.Paired.{Paired}
 use Rattle.pairing.specs.Take.{takeOf}
 use Rattle.pairing.specs.Table60.{Steps, sets, takes, within16, reserved}
-use Rattle.pairing.specs.Pairing.{decode, linkedTo, refusedBy}
+use Rattle.pairing.specs.Pairing.{decode, linkedTo, refusedLink}
 
 module _ (x : Paired) (symbols counts : List ℕ) (back st : State) where
   -- the end of a case
@@ -23,7 +23,7 @@ module _ (x : Paired) (symbols counts : List ℕ) (back st : State) where
     unfolding decode
     done h e k = rw (← e, ← k) h
 
-  pub no-case : x ≡ refusedBy codeOut back → x ≡ decode symbols counts back st reserved
+  pub no-case : x ≡ refusedLink codeOut back → x ≡ decode symbols counts back st reserved
   unfolding decode
   no-case h = h
 
@@ -33,7 +33,7 @@ module _ (x : Paired) (symbols counts : List ℕ) (back st : State) where
     unfolding decode
     given h k = rw (← e, h) k
 
-    pub missing : r .found ≡ UsedUp → x ≡ refusedBy usedUp back → x ≡ decode symbols counts back st (takes s goOn)
+    pub missing : r .found ≡ UsedUp → x ≡ refusedLink usedUp back → x ≡ decode symbols counts back st (takes s goOn)
     unfolding decode
     missing h k = rw (← e, h) k
 
@@ -43,7 +43,7 @@ module _ (x : Paired) (symbols counts : List ℕ) (back st : State) where
     unfolding decode
     fits h k = rw (le-ltb largest16 v h) k
 
-    pub above : largest16 < v → x ≡ refusedBy valueOut back → x ≡ decode symbols counts back st (within16 v p)
+    pub above : largest16 < v → x ≡ refusedLink valueOut back → x ≡ decode symbols counts back st (within16 v p)
     unfolding decode
     above h k = rw (lt-ltb largest16 v h) k
 

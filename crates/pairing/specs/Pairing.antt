@@ -9,13 +9,13 @@ use Rattle.refusal.specs.Numbers.{fine, usedUp, codeOut, valueOut}
 use Rattle.unit.specs.declared.State.{State}
 use Rattle.unit.specs.declared.Unit.{Unit}
 use Rattle.unit.specs.Unit.{classHM, mostSegments, largest16}
-use Rattle.pairing.specs.declared.Found.{Found}
-use Rattle.pairing.specs.declared.Found.the-variants.{Symbol, UsedUp}
+use Rattle.pairing.specs.declared.NextSymbol.{NextSymbol}
+use Rattle.pairing.specs.declared.NextSymbol.the-variants.{Symbol, UsedUp}
 use Rattle.pairing.specs.declared.Taken.{Taken}
 use Rattle.pairing.specs.declared.Mate.the-variants.{Unpaired}
 use Rattle.pairing.specs.declared.Link.{Link}
-use Rattle.pairing.specs.declared.Answer.{Answer}
-use Rattle.pairing.specs.declared.Answer.the-variants.{Linked, Refused}
+use Rattle.pairing.specs.declared.LinkRead.{LinkRead}
+use Rattle.pairing.specs.declared.LinkRead.the-variants.{Linked, Refused}
 use Rattle.pairing.specs.declared.Paired.{Paired}
 use Rattle.pairing.specs.Take.{takeOf}
 use Rattle.pairing.specs.Table60.{Steps, sets, takes, within16, reserved, Decoded, HM-same-rec, table60}
@@ -23,14 +23,14 @@ use Rattle.pairing.specs.Table60.{Steps, sets, takes, within16, reserved
 -- Answers
 
 -- document 01's number for what a subsequence has: a symbol, or refusal 5
-abbrev pub foundNumber : Found → ℕ
+abbrev pub foundNumber : NextSymbol → ℕ
 foundNumber (Symbol v) = fine
 foundNumber UsedUp = usedUp
 
 -- document 01's number for an answer: nothing is refused, or the refusal
-abbrev pub answerNumber : Answer → ℕ
-answerNumber (Linked link) = fine
-answerNumber (Refused n) = n
+abbrev pub linkNumber : LinkRead → ℕ
+linkNumber (Linked link) = fine
+linkNumber (Refused n) = n
 
 -- the link of what a decoding case leaves
 abbrev pub linkOf : Decoded → Link
@@ -41,15 +41,15 @@ abbrev pub linkedTo : Link → State → Paired
 linkedTo link next = record { answer = Linked link; state = next }
 
 -- a refusal, with the state that it hands back
-abbrev pub refusedBy : ℕ → State → Paired
-refusedBy n back = record { answer = Refused n; state = back }
+abbrev pub refusedLink : ℕ → State → Paired
+refusedLink n back = record { answer = Refused n; state = back }
 
 -- Decoding
 
 -- goes on with the symbol and the state after it, or refuses
-abbrev pub withFound : Found → State → State → (ℕ → State → Paired) → Paired
+abbrev pub withFound : NextSymbol → State → State → (ℕ → State → Paired) → Paired
 withFound (Symbol v) next back goOn = goOn v next
-withFound UsedUp next back goOn = refusedBy (foundNumber UsedUp) back
+withFound UsedUp next back goOn = refusedLink (foundNumber UsedUp) back
 
 -- the same of what was taken
 abbrev pub withSymbol : Taken → State → (ℕ → State → Paired) → Paired
@@ -61,8 +61,8 @@ decode symbols counts back st (sets d) = linkedTo (linkOf d) st
 decode symbols counts back st (takes s goOn) =
     withSymbol (takeOf symbols counts st s) back (λ v next. decode symbols counts back next (goOn v))
 decode symbols counts back st (within16 v rest) =
-    cond (ltb largest16 v) (refusedBy valueOut back) (decode symbols counts back st rest)
-decode symbols counts back st reserved = refusedBy codeOut back
+    cond (ltb largest16 v) (refusedLink valueOut back) (decode symbols counts back st rest)
+decode symbols counts back st reserved = refusedLink codeOut back
 
 -- the steps of a record: one template segment (a unit has 1 or 2) takes nothing and keeps the page's first two lines, splitMate[0][0] = 0 and read1First = 1; HM takes no code; every other class takes a code from subsequence 0, and its case follows.
 -- Where the page differs, document 01 decides: the page lets HM take its value from a template of one segment too (a unit of class HM has two);

@@ -8,8 +8,8 @@ use Rattle.refusal.specs.Numbers.{codeOut, valueOut}
 use Rattle.unit.specs.declared.State.{State}
 use Rattle.unit.specs.declared.Unit.{Unit}
 use Rattle.unit.specs.Unit.{largest16}
-use Rattle.pairing.specs.declared.Answer.{Answer}
-use Rattle.pairing.specs.declared.Answer.the-variants.{Linked, Refused}
+use Rattle.pairing.specs.declared.LinkRead.{LinkRead}
+use Rattle.pairing.specs.declared.LinkRead.the-variants.{Linked, Refused}
 use Rattle.pairing.specs.Take.{raised, symbolOf}
 use Rattle.pairing.specs.Table60.{Steps, sets, takes, within16, reserved}
 use Rattle.pairing.specs.Pairing.{linkOf, recordSteps}
@@ -22,7 +22,7 @@ takenIn next (within16 v rest) = takenIn next rest
 takenIn next reserved = []
 
 -- what the steps come to, where every symbol that they take is there
-unfoldable pub cameTo : (ℕ → ℕ) → Steps → Answer
+unfoldable pub cameTo : (ℕ → ℕ) → Steps → LinkRead
 cameTo next (sets d) = Linked (linkOf d)
 cameTo next (takes s goOn) = cameTo next (goOn (next s))
 cameTo next (within16 v rest) = cond (ltb largest16 v) (Refused valueOut) (cameTo next rest)

@@ -7,7 +7,7 @@ use lib.Dec.{leb}
 use lib.ListN.{length, getD, set}
 use Rattle.unit.specs.declared.State.{State}
 use Rattle.unit.specs.State.{subsequences, symbolPlace}
-use Rattle.pairing.specs.declared.Found.the-variants.{Symbol, UsedUp}
+use Rattle.pairing.specs.declared.NextSymbol.the-variants.{Symbol, UsedUp}
 use Rattle.pairing.specs.declared.Taken.{Taken}
 
 -- how many symbols of subsequence s are taken: the standard's index j8,s (10.4.10)

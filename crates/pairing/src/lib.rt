@@ -9,14 +9,14 @@ use unit::Unit;
 mod rows;
 
 // The next symbol of a subsequence, or that it has none left.
-pub enum Found {
+pub enum NextSymbol {
     Symbol(u32),
     UsedUp,
 }
 
 // What taking a symbol hands back.
 pub struct Taken {
-    pub found: Found,
+    pub found: NextSymbol,
     pub state: State,
 }
 
@@ -25,7 +25,7 @@ fn none_left(state: State) -> Taken
     ensures { λ r. ⌜ r ≡ noneLeft state ⌝ }
 {
     Taken {
-        found: Found::UsedUp,
+        found: NextSymbol::UsedUp,
         state,
     }
 }
@@ -53,7 +53,7 @@ pub fn take(symbols: &[u32], counts: &[u32], state: State, s: usize) -> Taken
     let mut next = state;
     next.index[s] = k + 1;
     Taken {
-        found: Found::Symbol(v),
+        found: NextSymbol::Symbol(v),
         state: next,
     }
 }
@@ -103,14 +103,14 @@ impl Link {
 }
 
 // A link, or a refusal by its number.
-pub enum Answer {
+pub enum LinkRead {
     Linked(Link),
     Refused(u32),
 }
 
 // What decoding a record's pair symbols hands back.
 pub struct Paired {
-    pub answer: Answer,
+    pub answer: LinkRead,
     pub state: State,
 }
 
@@ -128,7 +128,7 @@ pub fn pair(unit: Unit, symbols: &[u32], counts: &[u32], state: State) -> Paired
     let t = take(symbols, counts, state, 0);
     let found = t.found;
     let next = t.state;
-    let Found::Symbol(code) = found else {
+    let NextSymbol::Symbol(code) = found else {
         return rows::refused(refusal::USED_UP, state);
     };
     rows::by_code(class, unit.sequence, symbols, counts, next, state, code)

@@ -1,11 +1,11 @@
 // The rows of Table 60, a function each. `back` is the state that a refusal hands back.
 ghost use mathlib.Core.Path.{_≡_};
 ghost use Rattle.pairing.specs.Table60.{HM-same-rec, same-rec, split, diff-ref-seq, table60, mateAt, readFirst};
-ghost use Rattle.pairing.specs.Pairing.{decode, linkedTo, refusedBy};
-use crate::Answer;
-use crate::Found;
+ghost use Rattle.pairing.specs.Pairing.{decode, linkedTo, refusedLink};
 use crate::Link;
+use crate::LinkRead;
 use crate::Mate;
+use crate::NextSymbol;
 use crate::Paired;
 use crate::take;
 use unit::State;
@@ -13,10 +13,10 @@ use unit::Unit;
 
 // A refusal, with the state it hands back.
 pub(crate) fn refused(number: u32, back: State) -> Paired
-    ensures { λ r. ⌜ r ≡ refusedBy number back ⌝ }
+    ensures { λ r. ⌜ r ≡ refusedLink number back ⌝ }
 {
     Paired {
-        answer: Answer::Refused(number),
+        answer: LinkRead::Refused(number),
         state: back,
     }
 }
@@ -32,7 +32,7 @@ pub(crate) fn linked(first: u32, split: u32, segments: u32, mate: Mate, state: S
         mate,
     };
     Paired {
-        answer: Answer::Linked(link),
+        answer: LinkRead::Linked(link),
         state,
     }
 }
@@ -64,7 +64,7 @@ pub(crate) fn half_mapped(symbols: &[u32], counts: &[u32], state: State) -> Pair
     let t = take(symbols, counts, state, 1);
     let found = t.found;
     let next = t.state;
-    let Found::Symbol(v) = found else {
+    let NextSymbol::Symbol(v) = found else {
         return refused(refusal::USED_UP, state);
     };
     if Unit::LARGEST16 < v {
@@ -84,7 +84,7 @@ fn same_rec(class: u32, symbols: &[u32], counts: &[u32], state: State, back: Sta
     let t = take(symbols, counts, state, 1);
     let found = t.found;
     let next = t.state;
-    let Found::Symbol(v) = found else {
+    let NextSymbol::Symbol(v) = found else {
         return refused(refusal::USED_UP, back);
     };
     if Unit::LARGEST16 < v {
@@ -111,7 +111,7 @@ fn split(
     let t = take(symbols, counts, state, s);
     let found = t.found;
     let next = t.state;
-    let Found::Symbol(position) = found else {
+    let NextSymbol::Symbol(position) = found else {
         return refused(refusal::USED_UP, back);
     };
     let mate = mate_at(class, sequence, position);
@@ -134,7 +134,7 @@ fn diff_ref_seq(
     let t = take(symbols, counts, state, s);
     let found = t.found;
     let next = t.state;
-    let Found::Symbol(sequence) = found else {
+    let NextSymbol::Symbol(sequence) = found else {
         return refused(refusal::USED_UP, back);
     };
     if class == Unit::U {

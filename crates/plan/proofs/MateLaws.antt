@@ -18,9 +18,9 @@ use Rattle.pairing.specs.declared.Mate.{Mate}
 use Rattle.pairing.specs.declared.Mate.the-variants.{Unpaired, Near, Far}
 use Rattle.pairing.proofs.Cases.{MateWithin}
 use Rattle.pairing.proofs.Laws.{link-within, link-alone}
-use Rattle.part.proofs.PlaceLaws.{placed-inside}
+use Rattle.segment.proofs.PlaceLaws.{placed-inside}
 use Rattle.pairing.proofs.MateLaws.{link-together}
-use Rattle.plan.specs.Plan.{secondPart}
+use Rattle.plan.specs.Plan.{secondSegment}
 use Rattle.plan.specs.declared.read.Plan.{Plan}
 use Rattle.plan.specs.Said.{Second, alone, behind, PlanTaken}
 
@@ -36,7 +36,7 @@ module _ (u : UnitOf) (reference symbols counts : List ℕ) (state : State) (lin
 
   -- a mate at a delta is the second segment, and stands inside the unit
   near-inside : UnitValid u → PlanTaken u reference symbols counts state line p moved → (delta : ℕ) → p .link .mate ≡ Near delta → p .pos + delta ≤ u .end
-  unfolding secondPart
+  unfolding secondSegment
   near-inside valid taken delta e = by (taken .blocks .second)
     where
       two : p .link .segments ≡ mostSegments

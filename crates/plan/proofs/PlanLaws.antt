@@ -22,18 +22,18 @@ use Rattle.frame.proofs.StepLaws.{past-line, past-field, past-refusal, past-mat
 use Rattle.unit.proofs.ValidLaws.{UnitValid}
 use Rattle.pairing.specs.Table60.{mappingPos}
 use Rattle.pairing.specs.Pairing.{pairOf}
-use Rattle.pairing.specs.declared.Answer.{Answer}
-use Rattle.pairing.specs.declared.Answer.the-variants as pair
+use Rattle.pairing.specs.declared.LinkRead.{LinkRead}
+use Rattle.pairing.specs.declared.LinkRead.the-variants as pair
 use Rattle.pairing.specs.declared.Link.{Link}
-use Rattle.part.specs.declared.Placed.{Placed}
-use Rattle.segment.specs.declared.unaligned.Unaligned.{Unaligned as UnalignedOf}
-use Rattle.part.specs.declared.Part.{Part}
-use Rattle.part.specs.declared.Part.the-variants.{Aligned, Unaligned, Absent}
-use Rattle.part.specs.declared.PartRead.{PartRead}
-use Rattle.part.specs.declared.PartRead.the-variants as part
-use Rattle.part.proofs.PartLaws.{Taken, placed-taken, plain-taken, absent-taken}
-use Rattle.part.proofs.StandardLaws.{Accepted, placed-accepted, placed-aligned, plain-unaligned}
-use Rattle.plan.specs.Plan.{plan, finished, firstPart, secondPart, afterPart, fromSecond, fromFirst, fromPos, refusedReading, settled, afterAnswer, fromKind, planOf, ReadyPlan}
+use Rattle.segment.specs.declared.Placed.{Placed}
+use Rattle.block.specs.declared.unaligned.UnalignedBlock.{UnalignedBlock}
+use Rattle.segment.specs.declared.Segment.{Segment}
+use Rattle.segment.specs.declared.Segment.the-variants.{Aligned, Unaligned, Absent}
+use Rattle.segment.specs.declared.SegmentRead.{SegmentRead}
+use Rattle.segment.specs.declared.SegmentRead.the-variants as segment
+use Rattle.segment.proofs.SegmentLaws.{SegmentTaken, placed-taken, plain-taken, absent-taken}
+use Rattle.segment.proofs.StandardLaws.{SegmentAccepted, placed-accepted, placed-aligned, plain-unaligned}
+use Rattle.plan.specs.Plan.{plan, nothingLeftOver, firstSegment, secondSegment, afterSegment, fromSecond, fromFirst, fromPos, refusedReading, settled, afterAnswer, fromKind, planOf, ReadyPlan}
 use Rattle.plan.specs.Said.{Second, alone, behind, Blocks, PlanTaken}
 use Rattle.plan.specs.declared.read.Plan.{Plan}
 use Rattle.plan.specs.declared.read.Planned.{Planned}
@@ -52,33 +52,33 @@ never : {n : ℕ} {p : Plan} → Refused n ≡ Whole p → ⊥
 never e = let z : _≡_ {A = ℕ} 0 1 = cc in omega arith
 
 module _ (u : Unit) (reference frame : List ℕ) (p : Plan) where
-  finished-is : (q : Plan) (at : ℕ) → finished frame q at ≡ Whole p → p ≡ q
-  unfolding finished
+  finished-is : (q : Plan) (at : ℕ) → nothingLeftOver frame q at ≡ Whole p → p ≡ q
+  unfolding nothingLeftOver
   finished-is q at e = let w : Whole q ≡ Whole p = past-refusal (Refused misframed) never at (length frame) (Whole q) e .1 in cc
 
   module _ (link : Link) (pos : ℕ) where
-    second-blocks : (first : Part) (at : ℕ) (next : Cursor) → firstPart u reference frame pos at ≡ part.Whole first next → fromSecond u reference frame link pos first (next .at) ≡ Whole p → BlocksOf u reference frame link pos at p
+    second-blocks : (first : Segment) (at : ℕ) (next : Cursor) → firstSegment u reference frame pos at ≡ segment.Whole first next → fromSecond u reference frame link pos first (next .at) ≡ Whole p → BlocksOf u reference frame link pos at p
     unfolding fromSecond
     second-blocks first at next f q =
         by-test (ltb (link .segments) mostSegments)
         (λ t.
         let i : p ≡ plan link pos first Absent = finished-is _ (next .at) (simp t at q) in
         rw i record { link-is = refl; pos-is = refl; blocks = record { next = next; first = f; second = alone (ltb-true _ _ t) refl } })
-        (λ t. by (ltb-false _ _ t) (secondPart u reference frame link pos (next .at)) refl (simp t at q))
+        (λ t. by (ltb-false _ _ t) (secondSegment u reference frame link pos (next .at)) refl (simp t at q))
       where
-        by : mostSegments ≤ link .segments → (x : PartRead) → secondPart u reference frame link pos (next .at) ≡ x → afterPart x (λ second behind. finished frame (plan link pos first second) behind) ≡ Whole p → BlocksOf u reference frame link pos at p
-        by two (part.Refused n) e z = absurd (never z)
-        by two (part.Whole second last) e z =
+        by : mostSegments ≤ link .segments → (x : SegmentRead) → secondSegment u reference frame link pos (next .at) ≡ x → afterSegment x (λ second behind. nothingLeftOver frame (plan link pos first second) behind) ≡ Whole p → BlocksOf u reference frame link pos at p
+        by two (segment.Refused n) e z = absurd (never z)
+        by two (segment.Whole second last) e z =
             let i : p ≡ plan link pos first second = finished-is _ (last .at) z in
             rw i record { link-is = refl; pos-is = refl; blocks = record { next = next; first = f; second = behind two last e } }
 
     first-blocks : (at : ℕ) → fromFirst u reference frame link pos at ≡ Whole p → BlocksOf u reference frame link pos at p
     unfolding fromFirst
-    first-blocks at q = by (firstPart u reference frame pos at) refl q
+    first-blocks at q = by (firstSegment u reference frame pos at) refl q
       where
-        by : (x : PartRead) → firstPart u reference frame pos at ≡ x → afterPart x (λ first behind. fromSecond u reference frame link pos first behind) ≡ Whole p → BlocksOf u reference frame link pos at p
-        by (part.Refused n) e z = absurd (never z)
-        by (part.Whole first next) e z = second-blocks first at next e z
+        by : (x : SegmentRead) → firstSegment u reference frame pos at ≡ x → afterSegment x (λ first behind. fromSecond u reference frame link pos first behind) ≡ Whole p → BlocksOf u reference frame link pos at p
+        by (segment.Refused n) e z = absurd (never z)
+        by (segment.Whole first next) e z = second-blocks first at next e z
 
   pos-blocks : (link : Link) (at : ℕ) → fromPos u reference frame link at ≡ Whole p → BlocksOf u reference frame link (bigAt 4 frame at) (at + 4) p
   unfolding fromPos
@@ -91,24 +91,24 @@ module _ (u : Unit) (reference frame : List ℕ) (p : Plan) where
 -- ---- they are ready to be written
 
 module _ (u : Unit) (reference frame : List ℕ) (bytes : (i : ℕ) → getD frame i 0 < 256) where
-  first-taken : (pos at : ℕ) (p : Part) (next : Cursor) → firstPart u reference frame pos at ≡ part.Whole p next → Taken u reference frame p (next .at)
-  unfolding firstPart
+  first-taken : (pos at : ℕ) (p : Segment) (next : Cursor) → firstSegment u reference frame pos at ≡ segment.Whole p next → SegmentTaken u reference frame p (next .at)
+  unfolding firstSegment
   first-taken pos at p next q =
       by-test (eqb (u .class) classU) (λ t. plain-taken u reference frame at p next (simp t at q)) (λ t. placed-taken u reference frame pos at p next bytes (simp t at q))
 
-  second-taken : (link : Link) (pos at : ℕ) (p : Part) (next : Cursor) → secondPart u reference frame link pos at ≡ part.Whole p next → Taken u reference frame p (next .at)
-  unfolding secondPart
+  second-taken : (link : Link) (pos at : ℕ) (p : Segment) (next : Cursor) → secondSegment u reference frame link pos at ≡ segment.Whole p next → SegmentTaken u reference frame p (next .at)
+  unfolding secondSegment
   second-taken link pos at p next q =
       by-test (ltb (u .class) classHM) (λ t. placed-taken u reference frame _ at p next bytes (simp t at q)) (λ t. plain-taken u reference frame at p next (simp t at q))
 
-  both-ready : (p : Plan) (a b : ℕ) → Taken u reference frame (p .first) a → Taken u reference frame (p .second) b → ReadyPlan u reference frame p
+  both-ready : (p : Plan) (a b : ℕ) → SegmentTaken u reference frame (p .first) a → SegmentTaken u reference frame (p .second) b → ReadyPlan u reference frame p
   both-ready p a b f s =
       record { first = f .ready; second = s .ready; first-long = f .long; second-long = s .long; first-most = f .most; second-most = s .most }
 
   pub blocks-ready : (at : ℕ) (p : Plan) → Blocks u reference frame at p → ReadyPlan u reference frame p
   blocks-ready at p b = by (b .second)
     where
-      first : Taken u reference frame (p .first) (b .next .at)
+      first : SegmentTaken u reference frame (p .first) (b .next .at)
       first = first-taken (p .pos) at (p .first) (b .next) (b .first)
 
       by : Second u reference frame p (b .next .at) → ReadyPlan u reference frame p
@@ -149,7 +149,7 @@ module _ (u : Unit) (reference symbols counts : List ℕ) (state : State) (line 
             ready = blocks-ready u reference (unhex line) (byte-lt line) 5 p (b .blocks);
           }
 
-      by-answer : (size : ℕ) → lineOf line ≡ Frame size → bigAt 1 (unhex line) 0 ≡ kindRecord → (x : Answer) → pairOf u symbols counts state .answer ≡ x
+      by-answer : (size : ℕ) → lineOf line ≡ Frame size → bigAt 1 (unhex line) 0 ≡ kindRecord → (x : LinkRead) → pairOf u symbols counts state .answer ≡ x
           → afterAnswer u reference (unhex line) (pairOf u symbols counts state .state) state 1 x ≡ whole → PlanTaken u reference symbols counts state line p moved
       by-answer size w k (pair.Refused n) e z = absurd (refused-never n state z)
       by-answer size w k (pair.Linked link) e z = by-plan size w k link e (fromPos u reference (unhex line) link 1) refl z
@@ -159,31 +159,31 @@ module _ (u : Unit) (reference symbols counts : List ℕ) (state : State) (line 
 
 -- ---- which of its segments are aligned (10.4.10): all in P, N, M and I, the first in HM, none in U
 
-never-plain : {P : Type 0} {q : Placed} → (s : UnalignedOf) × (Aligned q ≡ Unaligned s) → P
+never-plain : {P : Type 0} {q : Placed} → (s : UnalignedBlock) × (Aligned q ≡ Unaligned s) → P
 never-plain w = let e = w .1 in absurd (let z : _≡_ {A = ℕ} 0 1 = cc in omega arith)
 
 module _ (u : Unit) (reference frame : List ℕ) where
-  first-placed : (pos at : ℕ) (p : Part) (next : Cursor) → firstPart u reference frame pos at ≡ part.Whole p next → (u .class ≡ classU → ⊥) → (q : Placed) × (p ≡ Aligned q)
-  unfolding firstPart
+  first-placed : (pos at : ℕ) (p : Segment) (next : Cursor) → firstSegment u reference frame pos at ≡ segment.Whole p next → (u .class ≡ classU → ⊥) → (q : Placed) × (p ≡ Aligned q)
+  unfolding firstSegment
   first-placed pos at p next e h = placed-aligned u frame p next reference pos at (simp (ne-eqb _ _ h) at e)
 
-  first-plain : (pos at : ℕ) (p : Part) (next : Cursor) → firstPart u reference frame pos at ≡ part.Whole p next → u .class ≡ classU → (s : UnalignedOf) × (p ≡ Unaligned s)
-  unfolding firstPart
+  first-plain : (pos at : ℕ) (p : Segment) (next : Cursor) → firstSegment u reference frame pos at ≡ segment.Whole p next → u .class ≡ classU → (s : UnalignedBlock) × (p ≡ Unaligned s)
+  unfolding firstSegment
   first-plain pos at p next e h = plain-unaligned u frame p next at (simp (eq-eqb _ _ h) at e)
 
-  second-placed : (link : Link) (pos at : ℕ) (p : Part) (next : Cursor) → secondPart u reference frame link pos at ≡ part.Whole p next → u .class < classHM → (q : Placed) × (p ≡ Aligned q)
-  unfolding secondPart
+  second-placed : (link : Link) (pos at : ℕ) (p : Segment) (next : Cursor) → secondSegment u reference frame link pos at ≡ segment.Whole p next → u .class < classHM → (q : Placed) × (p ≡ Aligned q)
+  unfolding secondSegment
   second-placed link pos at p next e h = placed-aligned u frame p next reference _ at (simp (lt-ltb _ _ h) at e)
 
-  second-plain : (link : Link) (pos at : ℕ) (p : Part) (next : Cursor) → secondPart u reference frame link pos at ≡ part.Whole p next → classHM ≤ u .class → (s : UnalignedOf) × (p ≡ Unaligned s)
-  unfolding secondPart
+  second-plain : (link : Link) (pos at : ℕ) (p : Segment) (next : Cursor) → secondSegment u reference frame link pos at ≡ segment.Whole p next → classHM ≤ u .class → (s : UnalignedBlock) × (p ≡ Unaligned s)
+  unfolding secondSegment
   second-plain link pos at p next e h = plain-unaligned u frame p next at (simp (le-ltb _ _ h) at e)
 
   module _ (at : ℕ) (p : Plan) (b : Blocks u reference frame at p) where
     pub first-is-aligned : (u .class ≡ classU → ⊥) → (q : Placed) × (p .first ≡ Aligned q)
     first-is-aligned = first-placed (p .pos) at (p .first) (b .next) (b .first)
 
-    pub first-is-plain : u .class ≡ classU → (s : UnalignedOf) × (p .first ≡ Unaligned s)
+    pub first-is-plain : u .class ≡ classU → (s : UnalignedBlock) × (p .first ≡ Unaligned s)
     first-is-plain = first-plain (p .pos) at (p .first) (b .next) (b .first)
 
     pub second-is-aligned : mostSegments ≤ p .link .segments → u .class < classHM → (q : Placed) × (p .second ≡ Aligned q)
@@ -193,10 +193,10 @@ module _ (u : Unit) (reference frame : List ℕ) where
         by (alone few none) = absurd (omega arith)
         by (behind _ next f) = second-placed (p .link) (p .pos) (b .next .at) (p .second) next f h
 
-    pub second-is-plain : mostSegments ≤ p .link .segments → classHM ≤ u .class → (s : UnalignedOf) × (p .second ≡ Unaligned s)
+    pub second-is-plain : mostSegments ≤ p .link .segments → classHM ≤ u .class → (s : UnalignedBlock) × (p .second ≡ Unaligned s)
     second-is-plain two h = by (b .second)
       where
-        by : Second u reference frame p (b .next .at) → (s : UnalignedOf) × (p .second ≡ Unaligned s)
+        by : Second u reference frame p (b .next .at) → (s : UnalignedBlock) × (p .second ≡ Unaligned s)
         by (alone few none) = absurd (omega arith)
         by (behind _ next f) = second-plain (p .link) (p .pos) (b .next .at) (p .second) next f h
 
@@ -211,29 +211,29 @@ module _ (u : Unit) (reference frame : List ℕ) where
 
 module _ (u : Unit) (reference frame : List ℕ) (bytes : (i : ℕ) → getD frame i 0 < 256) (valid : UnitValid u) (q : Placed) where
   -- in every class but U the first stands at pos
-  first-accepted : (pos at : ℕ) (next : Cursor) → firstPart u reference frame pos at ≡ part.Whole (Aligned q) next → Accepted u reference frame q × (q .position ≡ pos)
-  unfolding firstPart
+  first-accepted : (pos at : ℕ) (next : Cursor) → firstSegment u reference frame pos at ≡ segment.Whole (Aligned q) next → SegmentAccepted u reference frame q × (q .position ≡ pos)
+  unfolding firstSegment
   first-accepted pos at next e =
       by-test (eqb (u .class) classU)
       (λ t. never-plain (plain-unaligned u frame (Aligned q) next at (simp t at e)))
       (λ t. placed-accepted u reference frame pos q next at bytes (valid .class-least) (omega (arith, valid .class-most, eqb-false (u .class) classU t)) (simp t at e))
 
   -- in the classes before HM the second stands at the mate's position
-  second-accepted : (link : Link) (pos at : ℕ) (next : Cursor) → secondPart u reference frame link pos at ≡ part.Whole (Aligned q) next
-      → Accepted u reference frame q × (q .position ≡ mappingPos pos (link .mate))
-  unfolding secondPart
+  second-accepted : (link : Link) (pos at : ℕ) (next : Cursor) → secondSegment u reference frame link pos at ≡ segment.Whole (Aligned q) next
+      → SegmentAccepted u reference frame q × (q .position ≡ mappingPos pos (link .mate))
+  unfolding secondSegment
   second-accepted link pos at next e =
       by-test (ltb (u .class) classHM)
       (λ t. placed-accepted u reference frame (mappingPos pos (link .mate)) q next at bytes (valid .class-least) (omega (arith, ltb-true (u .class) classHM t)) (simp t at e))
       (λ t. never-plain (plain-unaligned u frame (Aligned q) next at (simp t at e)))
 
   module _ (at : ℕ) (p : Plan) (b : Blocks u reference frame at p) where
-    pub first-aligned : p .first ≡ Aligned q → Accepted u reference frame q × (q .position ≡ p .pos)
-    first-aligned e = first-accepted (p .pos) at (b .next) (b .first ∙ ap (λ (x : Part). part.Whole x (b .next)) e)
+    pub first-aligned : p .first ≡ Aligned q → SegmentAccepted u reference frame q × (q .position ≡ p .pos)
+    first-aligned e = first-accepted (p .pos) at (b .next) (b .first ∙ ap (λ (x : Segment). segment.Whole x (b .next)) e)
 
-    pub second-aligned : p .second ≡ Aligned q → Accepted u reference frame q × (q .position ≡ mappingPos (p .pos) (p .link .mate))
+    pub second-aligned : p .second ≡ Aligned q → SegmentAccepted u reference frame q × (q .position ≡ mappingPos (p .pos) (p .link .mate))
     second-aligned e = by (b .second)
       where
-        by : Second u reference frame p (b .next .at) → Accepted u reference frame q × (q .position ≡ mappingPos (p .pos) (p .link .mate))
+        by : Second u reference frame p (b .next .at) → SegmentAccepted u reference frame q × (q .position ≡ mappingPos (p .pos) (p .link .mate))
         by (alone few none) = absurd (let w : Absent ≡ Aligned q = sym none ∙ e in let z : _≡_ {A = ℕ} 0 1 = cc in omega arith)
-        by (behind two next f) = second-accepted (p .link) (p .pos) (b .next .at) next (f ∙ ap (λ (x : Part). part.Whole x next) e)
+        by (behind two next f) = second-accepted (p .link) (p .pos) (b .next .at) next (f ∙ ap (λ (x : Segment). segment.Whole x next) e)

@@ -20,17 +20,17 @@ use Rattle.unit.specs.declared.Unit.{Unit as UnitOf}
 use Rattle.unit.specs.declared.State.{State}
 use Rattle.unit.proofs.RefusalLaws.{unit-early}
 use Rattle.pairing.specs.Pairing.{pairOf}
-use Rattle.pairing.specs.declared.Answer.{Answer}
-use Rattle.pairing.specs.declared.Answer.the-variants as pair
+use Rattle.pairing.specs.declared.LinkRead.{LinkRead}
+use Rattle.pairing.specs.declared.LinkRead.the-variants as pair
 use Rattle.pairing.specs.declared.Link.{Link}
 use Rattle.pairing.proofs.Laws.{pair-told}
-use Rattle.part.specs.declared.Part.{Part}
-use Rattle.part.specs.declared.Part.the-variants.{Absent}
-use Rattle.part.specs.declared.PartRead.{PartRead}
-use Rattle.part.specs.declared.PartRead.the-variants as part
-use Rattle.part.proofs.RefusalLaws.{EarlyPart, placed-early, plain-early}
+use Rattle.segment.specs.declared.Segment.{Segment}
+use Rattle.segment.specs.declared.Segment.the-variants.{Absent}
+use Rattle.segment.specs.declared.SegmentRead.{SegmentRead}
+use Rattle.segment.specs.declared.SegmentRead.the-variants as segment
+use Rattle.segment.proofs.RefusalLaws.{EarlySegment, placed-early, plain-early}
 use Rattle.plan.specs.Lent.{countsOut, stateRefusal, lentRefusal}
-use Rattle.plan.specs.Plan.{plan, finished, firstPart, secondPart, afterPart, fromSecond, fromFirst, fromPos, settled, afterAnswer, fromKind, planOf}
+use Rattle.plan.specs.Plan.{plan, nothingLeftOver, firstSegment, secondSegment, afterSegment, fromSecond, fromFirst, fromPos, settled, afterAnswer, fromKind, planOf}
 use Rattle.plan.specs.declared.read.Plan.{Plan}
 use Rattle.plan.specs.declared.read.Planned.{Planned}
 use Rattle.plan.specs.declared.read.Planned.the-variants.{Whole, Refused}
@@ -46,35 +46,35 @@ EarlyReading x = EarlyPlan (x .planned)
 -- ---- what a record line says
 
 module _ (u : UnitOf) (reference frame : List ℕ) where
-  finished-early : (p : Plan) (at : ℕ) → EarlyPlan (finished frame p at)
-  unfolding finished
+  finished-early : (p : Plan) (at : ℕ) → EarlyPlan (nothingLeftOver frame p at)
+  unfolding nothingLeftOver
   finished-early p at = one-of EarlyPlan (ltb at (length frame)) _ _ (lit< tt, lit< tt) tt
 
-  first-early : (pos at : ℕ) → EarlyPart (firstPart u reference frame pos at)
-  unfolding firstPart
-  first-early pos at = one-of EarlyPart (eqb (u .class) classU) _ _ (plain-early u frame at) (placed-early u reference frame pos at)
+  first-early : (pos at : ℕ) → EarlySegment (firstSegment u reference frame pos at)
+  unfolding firstSegment
+  first-early pos at = one-of EarlySegment (eqb (u .class) classU) _ _ (plain-early u frame at) (placed-early u reference frame pos at)
 
-  second-early : (link : Link) (pos at : ℕ) → EarlyPart (secondPart u reference frame link pos at)
-  unfolding secondPart
-  second-early link pos at = one-of EarlyPart (ltb (u .class) classHM) _ _ (placed-early u reference frame _ at) (plain-early u frame at)
+  second-early : (link : Link) (pos at : ℕ) → EarlySegment (secondSegment u reference frame link pos at)
+  unfolding secondSegment
+  second-early link pos at = one-of EarlySegment (ltb (u .class) classHM) _ _ (placed-early u reference frame _ at) (plain-early u frame at)
 
   module _ (link : Link) where
-    from-second-early : (pos : ℕ) (first : Part) (at : ℕ) → EarlyPlan (fromSecond u reference frame link pos first at)
+    from-second-early : (pos : ℕ) (first : Segment) (at : ℕ) → EarlyPlan (fromSecond u reference frame link pos first at)
     unfolding fromSecond
     from-second-early pos first at =
-        one-of EarlyPlan (ltb (link .segments) mostSegments) _ _ (finished-early (plan link pos first Absent) at) (by (secondPart u reference frame link pos at) (second-early link pos at))
+        one-of EarlyPlan (ltb (link .segments) mostSegments) _ _ (finished-early (plan link pos first Absent) at) (by (secondSegment u reference frame link pos at) (second-early link pos at))
       where
-        by : (x : PartRead) → EarlyPart x → EarlyPlan (afterPart x (λ second behind. finished frame (plan link pos first second) behind))
-        by (part.Whole second next) h = finished-early (plan link pos first second) (next .at)
-        by (part.Refused n) h = h
+        by : (x : SegmentRead) → EarlySegment x → EarlyPlan (afterSegment x (λ second behind. nothingLeftOver frame (plan link pos first second) behind))
+        by (segment.Whole second next) h = finished-early (plan link pos first second) (next .at)
+        by (segment.Refused n) h = h
 
     from-first-early : (pos at : ℕ) → EarlyPlan (fromFirst u reference frame link pos at)
     unfolding fromFirst
-    from-first-early pos at = by (firstPart u reference frame pos at) (first-early pos at)
+    from-first-early pos at = by (firstSegment u reference frame pos at) (first-early pos at)
       where
-        by : (x : PartRead) → EarlyPart x → EarlyPlan (afterPart x (λ first behind. fromSecond u reference frame link pos first behind))
-        by (part.Whole first next) h = from-second-early pos first (next .at)
-        by (part.Refused n) h = h
+        by : (x : SegmentRead) → EarlySegment x → EarlyPlan (afterSegment x (λ first behind. fromSecond u reference frame link pos first behind))
+        by (segment.Whole first next) h = from-second-early pos first (next .at)
+        by (segment.Refused n) h = h
 
     pos-early : (at : ℕ) → EarlyPlan (fromPos u reference frame link at)
     unfolding fromPos
@@ -95,7 +95,7 @@ plan-early u reference symbols counts state line =
     settle (Whole p) next h = tt
     settle (Refused n) next h = h
 
-    answer : (at : ℕ) (x : Answer) → pairOf u symbols counts state .answer ≡ x → EarlyReading (afterAnswer u reference (unhex line) (pairOf u symbols counts state .state) state at x)
+    answer : (at : ℕ) (x : LinkRead) → pairOf u symbols counts state .answer ≡ x → EarlyReading (afterAnswer u reference (unhex line) (pairOf u symbols counts state .state) state at x)
     answer at (pair.Linked link) e = settle (fromPos u reference (unhex line) link at) _ (pos-early u reference (unhex line) link at)
     answer at (pair.Refused n) e = ⊎-elim (λ a. (omega arith, omega arith)) (⊎-elim (λ b. (omega arith, omega arith)) (λ c. (omega arith, omega arith))) (pair-told u symbols counts state n e .1)
 

@@ -7,13 +7,13 @@ use Prim.Native.Nat.{ℕ}
 use Rattle.frame.specs.declared.field.Cursor.{Cursor}
 use Rattle.unit.specs.declared.State.{State}
 use Rattle.unit.specs.declared.Unit.{Unit}
-use Rattle.pairing.specs.declared.Answer.the-variants as pair
+use Rattle.pairing.specs.declared.LinkRead.the-variants as pair
 use Rattle.pairing.specs.declared.Link.{Link}
 use Rattle.pairing.specs.declared.Paired.{Paired}
-use Rattle.part.specs.declared.Part.{Part}
-use Rattle.part.specs.declared.PartRead.{PartRead}
-use Rattle.part.specs.declared.PartRead.the-variants as part
-use Rattle.plan.specs.Plan.{afterPart, fromPos, refusedReading, settled, afterPair}
+use Rattle.segment.specs.declared.Segment.{Segment}
+use Rattle.segment.specs.declared.SegmentRead.{SegmentRead}
+use Rattle.segment.specs.declared.SegmentRead.the-variants as segment
+use Rattle.plan.specs.Plan.{afterSegment, fromPos, refusedReading, settled, afterPair}
 use Rattle.plan.specs.declared.read.Plan.{Plan}
 use Rattle.plan.specs.declared.read.Planned.{Planned}
 use Rattle.plan.specs.declared.read.Planned.the-variants.{Whole, Refused}
@@ -21,12 +21,12 @@ use Rattle.plan.specs.declared.read.Reading.{Reading}
 
 -- ---- a segment's reading
 
-module _ (x : Planned) (answer spec : PartRead) (more : Part → ℕ → Planned) where
-  pub part-read : (p : Part) (next : Cursor) → answer ≡ spec → answer ≡ part.Whole p next → x ≡ more p (next .at) → x ≡ afterPart spec more
-  part-read p next e h k = rw (← e, h) k
+module _ (x : Planned) (answer spec : SegmentRead) (more : Segment → ℕ → Planned) where
+  pub segment-read : (p : Segment) (next : Cursor) → answer ≡ spec → answer ≡ segment.Whole p next → x ≡ more p (next .at) → x ≡ afterSegment spec more
+  segment-read p next e h k = rw (← e, h) k
 
-  pub part-refused : (n : ℕ) → answer ≡ spec → answer ≡ part.Refused n → x ≡ Refused n → x ≡ afterPart spec more
-  part-refused n e h k = rw (← e, h) k
+  pub segment-refused : (n : ℕ) → answer ≡ spec → answer ≡ segment.Refused n → x ≡ Refused n → x ≡ afterSegment spec more
+  segment-refused n e h k = rw (← e, h) k
 
 -- ---- a record's reading, and the state after it
 

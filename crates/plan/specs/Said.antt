@@ -14,22 +14,22 @@ use Rattle.unit.specs.Unit.{mostSegments}
 use Rattle.unit.specs.declared.Unit.{Unit}
 use Rattle.unit.specs.declared.State.{State}
 use Rattle.pairing.specs.Pairing.{pairOf}
-use Rattle.pairing.specs.declared.Answer.the-variants as pair
-use Rattle.part.specs.declared.Placed.{Placed}
-use Rattle.part.specs.declared.Part.the-variants.{Aligned, Absent}
-use Rattle.part.specs.declared.PartRead.the-variants as part
-use Rattle.plan.specs.Plan.{firstPart, secondPart, ReadyPlan}
+use Rattle.pairing.specs.declared.LinkRead.the-variants as pair
+use Rattle.segment.specs.declared.Placed.{Placed}
+use Rattle.segment.specs.declared.Segment.the-variants.{Aligned, Absent}
+use Rattle.segment.specs.declared.SegmentRead.the-variants as segment
+use Rattle.plan.specs.Plan.{firstSegment, secondSegment, ReadyPlan}
 use Rattle.plan.specs.declared.read.Plan.{Plan}
 
 -- the second: the record has none, or its block stands behind the first
 pub data Second (u : Unit) (reference frame : List ℕ) (p : Plan) (at : ℕ) : Type 0 where
   alone : p .link .segments < mostSegments → p .second ≡ Absent → Second u reference frame p at
-  behind : mostSegments ≤ p .link .segments → (next : Cursor) → secondPart u reference frame (p .link) (p .pos) at ≡ part.Whole (p .second) next → Second u reference frame p at
+  behind : mostSegments ≤ p .link .segments → (next : Cursor) → secondSegment u reference frame (p .link) (p .pos) at ≡ segment.Whole (p .second) next → Second u reference frame p at
 
 -- both, from a place of the frame on
 pub record Blocks (u : Unit) (reference frame : List ℕ) (at : ℕ) (p : Plan) : Type 0 where
   pub next : Cursor
-  pub first : firstPart u reference frame (p .pos) at ≡ part.Whole (p .first) next
+  pub first : firstSegment u reference frame (p .pos) at ≡ segment.Whole (p .first) next
   pub second : Second u reference frame p (next .at)
 
 -- a well-formed line of kind 03; its link and the state are what the pair symbols say; pos and the blocks stand behind the kind

@@ -2,10 +2,10 @@
 use frame::field::Cursor;
 use frame::field::Field;
 use frame::line::Line;
-use pairing::Answer;
 use pairing::Link;
-use part::Part;
-use part::PartRead;
+use pairing::LinkRead;
+use segment::Segment;
+use segment::SegmentRead;
 use unit::State;
 use unit::Unit;
 use unit::kind::Kind;
@@ -13,14 +13,14 @@ ghost use mathlib.Core.Path.{_≡_};
 ghost use Prim.Native.Nat.{ℕ};
 ghost use Rattle.frame.specs.Hex.{unhex};
 ghost use Rattle.frame.specs.Field.{fieldAt};
-ghost use Rattle.plan.specs.Plan.{refusedReading, settled, planOf, fromKind, fromPos, fromFirst, fromSecond, finished, firstPart, secondPart};
+ghost use Rattle.plan.specs.Plan.{refusedReading, settled, planOf, fromKind, fromPos, fromFirst, fromSecond, nothingLeftOver, firstSegment, secondSegment};
 
 // A record as it will be listed: its pair link, its position and its segments.
 pub struct Plan {
     pub link: Link,
     pub pos: u32,
-    pub first: Part,
-    pub second: Part,
+    pub first: Segment,
+    pub second: Segment,
 }
 
 pub enum Planned {
@@ -97,8 +97,8 @@ fn from_kind(
     let answer = paired.answer;
     let next = paired.state;
     match answer {
-        Answer::Refused(n) => refused(n, state),
-        Answer::Linked(link) => {
+        LinkRead::Refused(n) => refused(n, state),
+        LinkRead::Linked(link) => {
             let pos = head.pos;
             let planned = from_pos(unit, reference, line, link, pos);
             settle(planned, next, state)
@@ -125,20 +125,28 @@ fn from_pos(unit: Unit, reference: &[u8], line: &[u8], link: Link, field: Field)
 fn from_first(unit: Unit, reference: &[u8], line: &[u8], link: Link, pos: u32, c: Cursor) -> Planned
     ensures { λ r. ⌜ r ≡ fromFirst unit (now (reference .entry)) (unhex (now (line .entry))) link pos (c .at) ⌝ }
 {
-    match first_part(unit, reference, line, pos, c) {
-        PartRead::Refused(n) => Planned::Refused(n),
-        PartRead::Whole(first, next) => from_second(unit, reference, line, link, pos, first, next),
+    match first_segment(unit, reference, line, pos, c) {
+        SegmentRead::Refused(n) => Planned::Refused(n),
+        SegmentRead::Whole(first, next) => from_second(
+            unit,
+            reference,
+            line,
+            link,
+            pos,
+            first,
+            next,
+        ),
     }
 }
 
 // In class U no segment is aligned.
-fn first_part(unit: Unit, reference: &[u8], line: &[u8], pos: u32, c: Cursor) -> PartRead
-    ensures { λ r. ⌜ r ≡ firstPart unit (now (reference .entry)) (unhex (now (line .entry))) pos (c .at) ⌝ }
+fn first_segment(unit: Unit, reference: &[u8], line: &[u8], pos: u32, c: Cursor) -> SegmentRead
+    ensures { λ r. ⌜ r ≡ firstSegment unit (now (reference .entry)) (unhex (now (line .entry))) pos (c .at) ⌝ }
 {
     if unit.class == Unit::U {
-        return part::read_unaligned(line, unit, c);
+        return segment::read_unaligned(line, unit, c);
     }
-    part::read_aligned(line, unit, reference, pos as u64, c)
+    segment::read_aligned(line, unit, reference, pos as u64, c)
 }
 
 fn from_second(
@@ -147,7 +155,7 @@ fn from_second(
     line: &[u8],
     link: Link,
     pos: u32,
-    first: Part,
+    first: Segment,
     c: Cursor,
 ) -> Planned
     ensures { λ r. ⌜ r ≡ fromSecond unit (now (reference .entry)) (unhex (now (line .entry))) link pos first (c .at) ⌝ }
@@ -157,13 +165,13 @@ fn from_second(
             link,
             pos,
             first,
-            second: Part::Absent,
+            second: Segment::Absent,
         };
         return finish(line, plan, c);
     }
-    match second_part(unit, reference, line, link, pos, c) {
-        PartRead::Refused(n) => Planned::Refused(n),
-        PartRead::Whole(second, next) => {
+    match second_segment(unit, reference, line, link, pos, c) {
+        SegmentRead::Refused(n) => Planned::Refused(n),
+        SegmentRead::Whole(second, next) => {
             let plan = Plan {
                 link,
                 pos,
@@ -176,25 +184,25 @@ fn from_second(
 }
 
 // In classes HM and U the second segment is not aligned.
-fn second_part(
+fn second_segment(
     unit: Unit,
     reference: &[u8],
     line: &[u8],
     link: Link,
     pos: u32,
     c: Cursor,
-) -> PartRead
-    ensures { λ r. ⌜ r ≡ secondPart unit (now (reference .entry)) (unhex (now (line .entry))) link pos (c .at) ⌝ }
+) -> SegmentRead
+    ensures { λ r. ⌜ r ≡ secondSegment unit (now (reference .entry)) (unhex (now (line .entry))) link pos (c .at) ⌝ }
 {
     if unit.class < Unit::HM {
-        return part::read_aligned(line, unit, reference, link.mate_position(pos), c);
+        return segment::read_aligned(line, unit, reference, link.mate_position(pos), c);
     }
-    part::read_unaligned(line, unit, c)
+    segment::read_unaligned(line, unit, c)
 }
 
 // Nothing may be left over.
 fn finish(line: &[u8], plan: Plan, c: Cursor) -> Planned
-    ensures { λ r. ⌜ r ≡ finished (unhex (now (line .entry))) plan (c .at) ⌝ }
+    ensures { λ r. ⌜ r ≡ nothingLeftOver (unhex (now (line .entry))) plan (c .at) ⌝ }
 {
     let at = c.at;
     if at < line.len() / 2 {

@@ -14,9 +14,9 @@ use Rattle.frame.specs.declared.field.Field.{Field}
 use Rattle.frame.specs.declared.field.Field.the-variants.{Value, Short}
 
 -- a frame's bytes, or 0 for a malformed line
-abbrev pub bytesOf : Line → ℕ
-bytesOf (Frame n) = n
-bytesOf Malformed = 0
+abbrev pub frameBytes : Line → ℕ
+frameBytes (Frame n) = n
+frameBytes Malformed = 0
 
 -- a field's value, or 0 for one that is not complete
 abbrev pub valueOf : Field → ℕ

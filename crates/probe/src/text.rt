@@ -5,12 +5,12 @@ use frame::line::Line;
 ghost use mathlib.Core.Path.{_≡_};
 ghost use Rattle.frame.specs.Hex.{unhex};
 ghost use Rattle.frame.specs.Line.{lineOf};
-ghost use Rattle.probe.specs.Text.{bytesOf, valueOf, sumTo, countInto};
+ghost use Rattle.probe.specs.Text.{frameBytes, valueOf, sumTo, countInto};
 
 // A frame's bytes, or 0 for a malformed line.
 #[no_mangle]
 pub extern "C" fn probe_line(line: &[u8]) -> usize
-    ensures { λ r. ⌜ r ≡ bytesOf (lineOf (now (line .entry))) ⌝ }
+    ensures { λ r. ⌜ r ≡ frameBytes (lineOf (now (line .entry))) ⌝ }
 {
     match frame::line::line_of(line) {
         Line::Frame(n) => n,

@@ -13,19 +13,19 @@ abbrev pub empty : Sink
 empty = record { used = 0; failed = false }
 
 -- nothing more is written
-abbrev pub stopped : Sink
-stopped = record { used = 0; failed = true }
+abbrev pub stoppedSink : Sink
+stoppedSink = record { used = 0; failed = true }
 
 -- n bytes more, where the buffer has m
 unfoldable pub longerBy : ℕ → ℕ → Sink → Sink
 longerBy n m k =
-    cond (ltb m (k .used)) stopped
-    (cond (ltb (m - k .used) n) stopped (record { used = k .used + n; failed = k .failed }))
+    cond (ltb m (k .used)) stoppedSink
+    (cond (ltb (m - k .used) n) stoppedSink (record { used = k .used + n; failed = k .failed }))
 
 -- a line more, by what its writer answered
 abbrev pub withLine : Wrote → ℕ → Sink → Sink
 withLine (Line n) m k = longerBy n m k
-withLine NoRoom m k = stopped
+withLine NoRoom m k = stoppedSink
 
 -- a longest line fits behind what is gathered, where it fits into the buffer at all
 pub record Roomy (m : ℕ) (k : Sink) : Type 0 where

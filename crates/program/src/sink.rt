@@ -5,7 +5,7 @@ use unit::listed::ListedLine;
 use writing::lay::Wrote;
 ghost use mathlib.Core.Path.{_≡_};
 ghost use lib.ListN.{length};
-ghost use Rattle.program.specs.Sink.{empty, stopped as stoppedSink, longerBy, withLine, Roomy};
+ghost use Rattle.program.specs.Sink.{empty, stoppedSink, longerBy, withLine, Roomy};
 
 // The first `used` bytes of the buffer are to be written.
 pub struct Sink {

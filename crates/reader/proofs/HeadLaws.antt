@@ -13,7 +13,7 @@ use Rattle.frame.specs.declared.field.Field.{Field}
 use Rattle.frame.specs.declared.field.Field.the-variants.{Value}
 use Rattle.frame.proofs.HexLaws.{by-test}
 use Rattle.reader.specs.Reading.{behind}
-use Rattle.reader.specs.Head.{headOf}
+use Rattle.reader.specs.Head.{recordHead}
 use Rattle.reader.specs.declared.head.Head.{Head}
 
 -- a frame without a kind has no pos at either place
@@ -24,10 +24,10 @@ pos-behind s =
     (λ t. simp (t, lt-leb 4 (length s) (omega (arith, leb-false 1 (length s) t)), lt-leb 5 (length s) (omega (arith, leb-false 1 (length s) t))))
 
 -- the two fields, for whoever takes kind apart first
-pub head-kind : {h : Head} (s : List ℕ) → h ≡ headOf s → h .kind ≡ fieldAt 1 s 0
-unfolding headOf
+pub head-kind : {h : Head} (s : List ℕ) → h ≡ recordHead s → h .kind ≡ fieldAt 1 s 0
+unfolding recordHead
 head-kind s e = ap (λ (x : Head). x .kind) e
 
-pub head-pos : {h : Head} (s : List ℕ) (v : ℕ) (c : Cursor) → h ≡ headOf s → h .kind ≡ Value v c → h .pos ≡ fieldAt 4 s (c .at)
-unfolding headOf
+pub head-pos : {h : Head} (s : List ℕ) (v : ℕ) (c : Cursor) → h ≡ recordHead s → h .kind ≡ Value v c → h .pos ≡ fieldAt 4 s (c .at)
+unfolding recordHead
 head-pos s v c e k = ap (λ (x : Head). x .pos) e ∙ sym (pos-behind s) ∙ ap (λ (f : Field). fieldAt 4 s (behind f 0)) (sym (head-kind s e) ∙ k)

@@ -9,8 +9,8 @@ use Rattle.frame.specs.Hex.{unhex}
 use Rattle.frame.specs.Field.{fieldAt}
 use Rattle.frame.specs.declared.field.Field.{Field}
 use Rattle.frame.proofs.Unique.{once}
-use Rattle.reader.specs.Reading.{bytesOf, atFront, further}
-use Rattle.reader.specs.Head.{headOf}
+use Rattle.reader.specs.Reading.{widthBytes, atFront, further}
+use Rattle.reader.specs.Head.{recordHead}
 use Rattle.reader.specs.declared.Reader.{Reader}
 use Rattle.reader.specs.declared.Width.{Width}
 use Rattle.reader.specs.declared.head.Head.{Head}
@@ -19,7 +19,7 @@ pub front-once : (line : RefT (List ℕ)) {x y : Reader} → x ≡ atFront line 
 front-once line p q = once p q
 
 -- the field, and the reader that is lent
-pub field-once : (r : Reader) (w : Width) {x y : Field} {after after′ : Reader} → x ≡ fieldAt (bytesOf w) (unhex (now (r .0))) (r .1) → y ≡ fieldAt (bytesOf w) (unhex (now (r .0))) (r .1) → after ≡ further r x → after′ ≡ further r y → (x ≡ y) × (after ≡ after′)
+pub field-once : (r : Reader) (w : Width) {x y : Field} {after after′ : Reader} → x ≡ fieldAt (widthBytes w) (unhex (now (r .0))) (r .1) → y ≡ fieldAt (widthBytes w) (unhex (now (r .0))) (r .1) → after ≡ further r x → after′ ≡ further r y → (x ≡ y) × (after ≡ after′)
 field-once r w p q f g = (once p q, once (f ∙ ap (further r) (once p q)) g)
 
 pub place-once : (r : Reader) {x y : ℕ} → x ≡ r .1 → y ≡ r .1 → x ≡ y
@@ -29,5 +29,5 @@ pub left-once : (r : Reader) {x y : ℕ} → x ≡ length (unhex (now (r .0))) -
 left-once r p q = once p q
 
 -- `head::read`
-pub head-once : (line : List ℕ) {x y : Head} → x ≡ headOf (unhex line) → y ≡ headOf (unhex line) → x ≡ y
+pub head-once : (line : List ℕ) {x y : Head} → x ≡ recordHead (unhex line) → y ≡ recordHead (unhex line) → x ≡ y
 head-once line p q = once p q

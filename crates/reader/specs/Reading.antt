@@ -10,10 +10,10 @@ use Rattle.reader.specs.declared.Width.{Width}
 use Rattle.reader.specs.declared.Width.the-variants.{U8, U16, U32}
 
 -- how many bytes a field takes
-abbrev pub bytesOf : Width → ℕ
-bytesOf U8 = 1
-bytesOf U16 = 2
-bytesOf U32 = 4
+abbrev pub widthBytes : Width → ℕ
+widthBytes U8 = 1
+widthBytes U16 = 2
+widthBytes U32 = 4
 
 -- the place behind a field, or the place as it was
 abbrev pub behind : Field → ℕ → ℕ

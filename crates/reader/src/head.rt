@@ -4,7 +4,7 @@ use crate::Width;
 use frame::field::Field;
 ghost use mathlib.Core.Path.{_≡_};
 ghost use Rattle.frame.specs.Hex.{unhex};
-ghost use Rattle.reader.specs.Head.{headOf};
+ghost use Rattle.reader.specs.Head.{recordHead};
 
 // Kind and pos, each complete or short.
 pub struct Head {
@@ -13,7 +13,7 @@ pub struct Head {
 }
 
 pub fn read(line: &[u8]) -> Head
-    ensures { λ r. ⌜ r ≡ headOf (unhex (now (line .entry))) ⌝ }
+    ensures { λ r. ⌜ r ≡ recordHead (unhex (now (line .entry))) ⌝ }
 {
     let mut r = Reader::front(line);
     let kind = r.field(Width::U8);

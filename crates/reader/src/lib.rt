@@ -9,7 +9,7 @@ ghost use Prim.Native.Nat.{_-_};
 ghost use lib.ListN.{length};
 ghost use Rattle.frame.specs.Hex.{unhex};
 ghost use Rattle.frame.specs.Field.{fieldAt};
-ghost use Rattle.reader.specs.Reading.{bytesOf, behind, atFront, further};
+ghost use Rattle.reader.specs.Reading.{widthBytes, behind, atFront, further};
 
 // The line's digits, and how many bytes of its frame are read.
 pub struct Reader<'a>(&'a [u8], usize);
@@ -23,7 +23,7 @@ pub enum Width {
 
 // The field at a place of the line's frame.
 fn field_at(line: &[u8], at: usize, w: Width) -> Field
-    ensures { λ r. ⌜ r ≡ fieldAt (bytesOf w) (unhex (now (line .entry))) at ⌝ }
+    ensures { λ r. ⌜ r ≡ fieldAt (widthBytes w) (unhex (now (line .entry))) at ⌝ }
 {
     match w {
         Width::U8 => frame::field::read_u8(line, Cursor { at }),
@@ -63,7 +63,7 @@ impl<'a> Reader<'a> {
 
     // The next field, and the place moves behind it; where the frame ends before it is complete, the place stays.
     pub fn field(&mut self, w: Width) -> Field
-        ensures { λ r. ⌜ (r ≡ fieldAt (bytesOf w) (unhex (now (now (self .entry) .0))) (now (self .entry) .1)) × (now (self .exit) ≡ further (now (self .entry)) r) ⌝ }
+        ensures { λ r. ⌜ (r ≡ fieldAt (widthBytes w) (unhex (now (now (self .entry) .0))) (now (self .entry) .1)) × (now (self .exit) ≡ further (now (self .entry)) r) ⌝ }
     {
         let at = self.1;
         let f = field_at(self.0, at, w);

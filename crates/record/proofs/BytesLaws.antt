@@ -7,15 +7,15 @@ use native.Mathlib.Omega.{arith}
 use lib.ListN.{length, length-append}
 use Rattle.frame.specs.Hex.{Bytes, be}
 use Rattle.frame.proofs.HexLaws.{length-be, bytes-be, bytes-append}
-use Rattle.unit.specs.Listed.{headOf}
+use Rattle.unit.specs.Listed.{listedHead}
 use Rattle.unit.specs.declared.Unit.{Unit}
 use Rattle.unit.specs.declared.State.{State}
 use Rattle.pairing.specs.Table60.{mateSeqId, mappingPos}
 use Rattle.pairing.specs.declared.Link.{Link}
-use Rattle.part.specs.Part.{partBytes, partLength}
+use Rattle.segment.specs.Segment.{segmentBytes, segmentLength}
 use Rattle.plan.specs.Plan.{ReadyPlan}
 use Rattle.plan.specs.declared.read.Plan.{Plan}
-use Rattle.part.proofs.BytesLaws.{bytes-part}
+use Rattle.segment.proofs.BytesLaws.{bytes-segment}
 use Rattle.unit.proofs.ListedLaws.{length-head, bytes-head}
 use Rattle.record.specs.Record.{linkBytes, listedBytes}
 
@@ -40,24 +40,24 @@ bytes-link sequence pos link =
 -- what stands behind the head
 abbrev pub tailBytes : Unit → List ℕ → List ℕ → Plan → List ℕ
 tailBytes u reference frame p =
-    linkBytes (u .sequence) (p .pos) (p .link) ++ partBytes u reference frame (p .first) ++ partBytes u reference frame (p .second)
+    linkBytes (u .sequence) (p .pos) (p .link) ++ segmentBytes u reference frame (p .first) ++ segmentBytes u reference frame (p .second)
 
 module _ (u : Unit) (reference frame : List ℕ) (number : ℕ) (next : State) (p : Plan) where
-  pub listed-head : listedBytes u reference frame number next p ≡ headOf number next ++ tailBytes u reference frame p
+  pub listed-head : listedBytes u reference frame number next p ≡ listedHead number next ++ tailBytes u reference frame p
   unfolding listedBytes
   listed-head = simp append-assoc
 
   pub bytes-listed : Bytes (listedBytes u reference frame number next p)
   bytes-listed =
       rw listed-head
-      (bytes-append (headOf number next) (tailBytes u reference frame p) (bytes-head number next)
+      (bytes-append (listedHead number next) (tailBytes u reference frame p) (bytes-head number next)
       (simp append-assoc
       (bytes-append (linkBytes (u .sequence) (p .pos) (p .link)) _ (bytes-link (u .sequence) (p .pos) (p .link))
-      (bytes-append (partBytes u reference frame (p .first)) _ (bytes-part u reference frame (p .first))
-      (bytes-part u reference frame (p .second))))))
+      (bytes-append (segmentBytes u reference frame (p .first)) _ (bytes-segment u reference frame (p .first))
+      (bytes-segment u reference frame (p .second))))))
 
   -- the bytes before the segments, and those of each segment
-  pub length-listed : ReadyPlan u reference frame p → length (listedBytes u reference frame number next p) ≡ 12 + 2 * length (next .index) + partLength (p .first) + partLength (p .second)
+  pub length-listed : ReadyPlan u reference frame p → length (listedBytes u reference frame number next p) ≡ 12 + 2 * length (next .index) + segmentLength (p .first) + segmentLength (p .second)
   unfolding listedBytes
   length-listed h =
       simp (length-append, length-head, length-link) (omega (arith, h .first-long, h .second-long))

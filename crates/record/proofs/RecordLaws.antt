@@ -18,16 +18,16 @@ use Rattle.frame.specs.declared.line.Line.the-variants.{Frame, Malformed}
 use Rattle.frame.proofs.HexLaws.{by-test, byte-lt}
 use Rattle.frame.proofs.LineLaws.{line-too-long, line-unended}
 use Rattle.unit.specs.State.{subsequences}
-use Rattle.unit.specs.Listed.{mostListed, leastListed, headOf, Step, refused, accepted}
+use Rattle.unit.specs.Listed.{mostListed, leastListed, listedHead, Step, refused, accepted}
 use Rattle.unit.specs.declared.Unit.{Unit as UnitOf}
 use Rattle.unit.specs.declared.State.{State}
 use Rattle.pairing.specs.Table60.{mappingPos}
 use Rattle.pairing.specs.Pairing.{pairOf}
 use Rattle.pairing.specs.declared.Link.{Link}
 use Rattle.pairing.proofs.Laws.{pair-follows, pair-within}
-use Rattle.part.specs.declared.Placed.{Placed}
-use Rattle.part.specs.declared.Part.the-variants.{Aligned}
-use Rattle.part.proofs.StandardLaws.{Accepted}
+use Rattle.segment.specs.declared.Placed.{Placed}
+use Rattle.segment.specs.declared.Segment.the-variants.{Aligned}
+use Rattle.segment.proofs.StandardLaws.{SegmentAccepted}
 use Rattle.plan.specs.Lent.{lentRefusal}
 use Rattle.plan.specs.Plan.{planOf}
 use Rattle.plan.specs.Said.{PlanTaken, AlignedIn}
@@ -42,7 +42,7 @@ use Rattle.record.proofs.BytesLaws.{tailBytes, listed-head, bytes-liste
 use Rattle.unit.proofs.ListedLaws.{length-head}
 
 -- exactly so many bytes stand before the segments
-pub least-listed : (number sequence pos : ℕ) (next : State) (link : Link) → length (next .index) ≡ subsequences → length (headOf number next ++ linkBytes sequence pos link) ≡ leastListed
+pub least-listed : (number sequence pos : ℕ) (next : State) (link : Link) → length (next .index) ≡ subsequences → length (listedHead number next ++ linkBytes sequence pos link) ≡ leastListed
 least-listed number sequence pos next link h = simp (length-append, length-head, length-link) (omega arith)
 
 -- ---- a refusal
@@ -83,7 +83,7 @@ pub record Listed (u : UnitOf) (counts : List ℕ) (state : State) (line frame :
   pub size : ℕ
   pub well-formed : lineOf line ≡ Frame size
   pub tail : List ℕ
-  pub head : frame ≡ headOf (state .number) next ++ tail
+  pub head : frame ≡ listedHead (state .number) next ++ tail
   pub bytes : Bytes frame
   pub least : leastListed ≤ length frame
   pub most : 2 * length frame ≤ mostListed
@@ -159,17 +159,17 @@ module _ (u : UnitOf) (reference symbols counts : List ℕ) (state : State) (lin
   said-taken = plan-taken u reference symbols counts state line p _ (ap (λ (x : Planned). record { planned = x; state = planOf u reference symbols counts state line .state }) said)
 
   module _ (q : Placed) where
-    pub said-first : p .first ≡ Aligned q → Accepted u reference (unhex line) q × (q .position ≡ bigAt 4 (unhex line) 1)
+    pub said-first : p .first ≡ Aligned q → SegmentAccepted u reference (unhex line) q × (q .position ≡ bigAt 4 (unhex line) 1)
     said-first e =
         let a = first-aligned u reference (unhex line) (byte-lt line) (taken .lent .unit) q 5 p (said-taken .blocks) e in
         (a .0, a .1 ∙ said-taken .pos-is)
 
-    pub said-second : p .second ≡ Aligned q → Accepted u reference (unhex line) q × (q .position ≡ mappingPos (bigAt 4 (unhex line) 1) (p .link .mate))
+    pub said-second : p .second ≡ Aligned q → SegmentAccepted u reference (unhex line) q × (q .position ≡ mappingPos (bigAt 4 (unhex line) 1) (p .link .mate))
     said-second e =
         let a = second-aligned u reference (unhex line) (byte-lt line) (taken .lent .unit) q 5 p (said-taken .blocks) e in
         (a .0, a .1 ∙ ap (λ (pos : ℕ). mappingPos pos (p .link .mate)) (said-taken .pos-is))
 
-    pub said-aligned : AlignedIn p q → Accepted u reference (unhex line) q
+    pub said-aligned : AlignedIn p q → SegmentAccepted u reference (unhex line) q
     said-aligned i = ⊎-elim (λ e. said-first e .0) (λ e. said-second e .0) i
 
 -- ---- room for the longest line

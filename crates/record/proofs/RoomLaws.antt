@@ -15,7 +15,7 @@ use Rattle.writing.specs.Whole.{lineInto}
 use Rattle.writing.proofs.WholeLaws.{no-room as line-no-room, room as line-room}
 use Rattle.unit.specs.Listed.{accepted}
 use Rattle.unit.specs.declared.State.{State}
-use Rattle.record.specs.Record.{refusedBy, listedBy, recorded, output, withRoom}
+use Rattle.record.specs.Record.{refusedCall, listedBy, recorded, output, withRoom}
 
 -- what an accepted call leaves in the output is what writes any line there
 pub output-is-line : (s bs : List ℕ) (next : State) → output s (withRoom (length s) (accepted bs next)) ≡ lineInto s bs
@@ -23,7 +23,7 @@ unfolding lineInto
 output-is-line s bs next = by-test (ltb (2 * length bs) (length s)) (λ t. simp t) (λ t. simp t)
 
 pub no-room : (state next : State) (s bs : List ℕ) → length s ≤ 2 * length bs
-    → (refusedBy noRoom state ≡ recorded state (withRoom (length s) (accepted bs next))) × (s ≡ output s (withRoom (length s) (accepted bs next)))
+    → (refusedCall noRoom state ≡ recorded state (withRoom (length s) (accepted bs next))) × (s ≡ output s (withRoom (length s) (accepted bs next)))
 no-room state next s bs h =
     let t = le-ltb (2 * length bs) (length s) h in
     (simp t, line-no-room s bs h .1 ∙ sym (output-is-line s bs next))

@@ -10,12 +10,12 @@ use Rattle.writing.specs.declared.lay.Wrote.the-variants.{NoRoom}
 use Rattle.frame.specs.Hex.{hexOf, unhex, be}
 use Rattle.frame.specs.Line.{lineEnd}
 use Rattle.frame.specs.Steps.{unless}
-use Rattle.unit.specs.Listed.{headOf, Step, refused, accepted}
+use Rattle.unit.specs.Listed.{listedHead, Step, refused, accepted}
 use Rattle.unit.specs.declared.Unit.{Unit}
 use Rattle.unit.specs.declared.State.{State}
 use Rattle.pairing.specs.Table60.{mateSeqId, mappingPos}
 use Rattle.pairing.specs.declared.Link.{Link}
-use Rattle.part.specs.Part.{partBytes}
+use Rattle.segment.specs.Segment.{segmentBytes}
 use Rattle.plan.specs.Lent.{lentRefusal}
 use Rattle.plan.specs.Plan.{plannedNumber, planOf}
 use Rattle.plan.specs.declared.read.Plan.{Plan}
@@ -36,10 +36,10 @@ linkBytes sequence pos link =
 -- kind, record number and the indexes after this record; the link; then each segment
 unfoldable pub listedBytes : Unit → (reference frame : List ℕ) (number : ℕ) (next : State) → Plan → List ℕ
 listedBytes u reference frame number next p =
-    headOf number next
+    listedHead number next
     ++ linkBytes (u .sequence) (p .pos) (p .link)
-    ++ partBytes u reference frame (p .first)
-    ++ partBytes u reference frame (p .second)
+    ++ segmentBytes u reference frame (p .first)
+    ++ segmentBytes u reference frame (p .second)
 
 -- ---- the call
 
@@ -77,8 +77,8 @@ answerNumber (answer.Listed bytes) = fine
 answerNumber (answer.Refused n) = n
 
 -- the refusal number and "the state it was given"
-abbrev pub refusedBy : (n : ℕ) → State → Recorded
-refusedBy n state = record { answer = answer.Refused n; state = state }
+abbrev pub refusedCall : (n : ℕ) → State → Recorded
+refusedCall n state = record { answer = answer.Refused n; state = state }
 
 -- how many bytes were written, and the next state
 abbrev pub listedBy : (bytes : ℕ) (next : State) → Recorded
@@ -86,7 +86,7 @@ listedBy bytes next = record { answer = answer.Listed bytes; state = next }
 
 -- the answer and the state, by the step: the 0A is one of the bytes
 abbrev pub recorded : State → Step → Recorded
-recorded state (refused n) = refusedBy n state
+recorded state (refused n) = refusedCall n state
 recorded state (accepted frame next) = listedBy (2 * length frame + 1) next
 
 -- "An accepted call writes its line at the front and nothing behind it"; after a refusal "no lent byte differs".

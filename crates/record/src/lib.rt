@@ -14,7 +14,7 @@ ghost use Rattle.frame.specs.Hex.{unhex};
 ghost use Rattle.unit.specs.Unit.{mostRecords};
 ghost use Rattle.plan.specs.Plan.{ReadyPlan};
 ghost use Rattle.plan.specs.declared.read.Planned.the-variants.{Whole};
-ghost use Rattle.record.specs.Record.{recordOf, refusedBy, recorded, output, withRoom, stepBy};
+ghost use Rattle.record.specs.Record.{recordOf, refusedCall, recorded, output, withRoom, stepBy};
 
 mod write;
 
@@ -32,7 +32,7 @@ pub struct Recorded {
 
 // A refusal, with the state that was given.
 fn refused(n: u32, state: State) -> Recorded
-    ensures { λ r. ⌜ r ≡ refusedBy n state ⌝ }
+    ensures { λ r. ⌜ r ≡ refusedCall n state ⌝ }
 {
     Recorded {
         answer: Answer::Refused(n),

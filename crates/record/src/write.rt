@@ -1,7 +1,7 @@
 // The 04 line of a record that is checked, laid into the lent line.
 use pairing::Link;
-use part::write as segment_write;
 use plan::read::Plan;
+use segment::write as segment_write;
 use unit::State;
 use unit::Unit;
 use unit::kind::Kind;
@@ -12,7 +12,7 @@ ghost use Prim.Native.Nat.{_+_, _*_, _≤_};
 ghost use lib.ListN.{length};
 ghost use Rattle.frame.specs.Hex.{unhex};
 ghost use Rattle.writing.specs.Lay.{Laid};
-ghost use Rattle.unit.specs.Listed.{words, headOf};
+ghost use Rattle.unit.specs.Listed.{words, listedHead};
 ghost use Rattle.plan.specs.Plan.{ReadyPlan};
 ghost use Rattle.record.specs.Record.{linkBytes, listedBytes};
 
@@ -32,8 +32,8 @@ fn put_indexes(out: &mut [u8], at: usize, index: [u32; State::SUBSEQUENCES]) -> 
 
 // Kind, record number, and the indexes after this record.
 fn put_head(out: &mut [u8], number: u32, next: State) -> usize
-    requires { ⌜ 2 * length (headOf number next) ≤ length (now out) ⌝ }
-    ensures { λ r. ⌜ Laid (now (out .entry)) (now (out .exit)) 0 r (headOf number next) ⌝ }
+    requires { ⌜ 2 * length (listedHead number next) ≤ length (now out) ⌝ }
+    ensures { λ r. ⌜ Laid (now (out .entry)) (now (out .exit)) 0 r (listedHead number next) ⌝ }
 {
     let index = next.index;
     let a = put_u8(out, 0, Kind::LISTED);

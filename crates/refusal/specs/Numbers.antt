@@ -9,8 +9,8 @@ abbrev pub fine : ℕ
 fine = 0
 
 -- the first of two refusals, where there is one
-abbrev pub firstOf : (one other : ℕ) → ℕ
-firstOf one other = cond (eqb one fine) other one
+abbrev pub firstRefusal : (one other : ℕ) → ℕ
+firstRefusal one other = cond (eqb one fine) other one
 
 -- other digits, odd count, too long a line, or a last line without 0A
 abbrev pub malformed : ℕ

@@ -6,17 +6,17 @@ use found::find;
 use libc::STDERR_FILENO;
 use libc::STDOUT_FILENO;
 use listing::close::NO_RECORD;
+use opening::files::FrontRead;
+use opening::files::OpenFiles;
+use opening::files::open;
 use opening::first::with_first;
-use opening::front::Front;
-use opening::front::Opened;
-use opening::front::open;
 use program::args::asks_help;
 use program::args::is_whole;
 use program::sink::Sink;
 use program::sink::with_refused;
+use rest::finish;
+use rest::rest;
 use resuming::place::Go;
-use supply::rest::finish;
-use supply::rest::rest;
 use unit::State;
 use unit::Unit;
 
@@ -33,7 +33,7 @@ fn usage(fd: i32) {
 }
 
 // The first line is missing where nothing is kept.
-fn first_sink(go: Go, front: Front, out: &mut [u8]) -> Sink {
+fn first_sink(go: Go, front: FrontRead, out: &mut [u8]) -> Sink {
     if let Go::Afresh = go {
         return with_first(Sink::new(), out, front);
     }
@@ -43,7 +43,7 @@ fn first_sink(go: Go, front: Front, out: &mut [u8]) -> Sink {
 // The missing lines, behind the kept ones.
 fn add_missing(
     found: Found,
-    opened: Opened,
+    opened: OpenFiles,
     reference: &[u8],
     symbols: &[u32],
     unit_path: &[u8],
@@ -63,7 +63,7 @@ fn add_missing(
 
 // Nothing is written before it is known where to go on.
 fn go_on(
-    opened: Opened,
+    opened: OpenFiles,
     reference: &[u8],
     symbols: &[u32],
     unit_path: &[u8],
@@ -107,7 +107,7 @@ fn resume(reference_path: &[u8], unit_path: &[u8], found_path: &[u8]) {
         &mut symbols,
     );
     let front = opened.front;
-    if let Front::Unread = front {
+    if let FrontRead::Unread = front {
         return;
     }
     go_on(

@@ -80,15 +80,15 @@ pass-none [] = refl
 pass-none (x ∷ xs) = refl
 
 -- what stands at place i of a piece, with w times 0A wanted there, where p is the whole piece's answer
-pub record Turn (a : List ℕ) (p : Passed) (i w : ℕ) : Type 0 where
+pub record PassTurn (a : List ℕ) (p : Passed) (i w : ℕ) : Type 0 where
   pub inside : i ≤ length a
   pub wanted : 0 < w
   pub comes : shifted i (passOver w (drop i a)) ≡ p
 
-pub turn-start : (a : List ℕ) (w : ℕ) → 0 < w → Turn a (passOver w a) 0 w
+pub turn-start : (a : List ℕ) (w : ℕ) → 0 < w → PassTurn a (passOver w a) 0 w
 turn-start a w h = record { inside = omega arith; wanted = h; comes = shifted-none (passOver w a) }
 
-module _ {a : List ℕ} {p : Passed} {i w : ℕ} (t : Turn a p i w) where
+module _ {a : List ℕ} {p : Passed} {i w : ℕ} (t : PassTurn a p i w) where
   -- the piece ends
   pub pass-end : length a ≤ i → record { at = i; left = w } ≡ p
   unfolding passOver
@@ -109,10 +109,10 @@ module _ {a : List ℕ} {p : Passed} {i w : ℕ} (t : Turn a p i w) where
         (sym (shifted-end (i + 1) 0) ∙ ap (shifted (i + 1)) (sym (pass-none (drop (i + 1) a)))
         ∙ ap (λ (n : ℕ). shifted (i + 1) (passOver n (drop (i + 1) a))) (sym z) ∙ line e)
 
-    pub pass-line : getD a i 0 ≡ lineEnd → (w - 1 ≡ 0 → ⊥) → Turn a p (i + 1) (w - 1)
+    pub pass-line : getD a i 0 ≡ lineEnd → (w - 1 ≡ 0 → ⊥) → PassTurn a p (i + 1) (w - 1)
     pass-line e z = record { inside = omega arith; wanted = omega arith; comes = line e }
 
-    pub pass-other : (getD a i 0 ≡ lineEnd → ⊥) → Turn a p (i + 1) w
+    pub pass-other : (getD a i 0 ≡ lineEnd → ⊥) → PassTurn a p (i + 1) w
     unfolding passOver
     pass-other e =
         record {

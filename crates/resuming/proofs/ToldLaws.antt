@@ -7,7 +7,7 @@ use Rattle.refusal.specs.Numbers.{otherLast}
 use Rattle.listing.specs.Resuming.{Last, goOn, whole, bad, onLast}
 use Rattle.resuming.specs.Last.{saidOf, barePlaced, placedOf}
 use Rattle.resuming.specs.declared.last.Said.{Said}
-use Rattle.resuming.specs.declared.last.Listed.the-variants.{GoOn, Whole, Bad}
+use Rattle.resuming.specs.declared.last.LastSays.the-variants.{GoOn, Whole, Bad}
 use Rattle.resuming.specs.declared.place.Go.the-variants.{On, Over, Refused}
 
 pub told-on : (t : Last) (r : Said) → r ≡ saidOf t → r .says ≡ GoOn → record { go = On; state = r .state } ≡ placedOf (onLast t)

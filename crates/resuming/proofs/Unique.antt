@@ -9,7 +9,7 @@ use Rattle.resuming.specs.Pass.{passOver}
 use Rattle.resuming.specs.Last.{saidOf, placedOf}
 use Rattle.resuming.specs.declared.pass.Passed.{Passed}
 use Rattle.resuming.specs.declared.last.Said.{Said}
-use Rattle.resuming.specs.declared.place.Placed.{Placed}
+use Rattle.resuming.specs.declared.place.WhereTo.{WhereTo}
 
 pub pass-once : (want : ℕ) (piece : List ℕ) {p p′ : Passed} → p ≡ passOver want piece → p′ ≡ passOver want piece → p ≡ p′
 pass-once want piece = once
@@ -17,6 +17,6 @@ pass-once want piece = once
 pub last-line-once : (count : ℕ) (counts line : List ℕ) {s s′ : Said} → s ≡ saidOf (lastOf count counts line) → s′ ≡ saidOf (lastOf count counts line) → s ≡ s′
 last-line-once count counts line = once
 
-pub place-once : (listed : List ℕ) (count : ℕ) (counts first last : List ℕ) {p p′ : Placed}
+pub place-once : (listed : List ℕ) (count : ℕ) (counts first last : List ℕ) {p p′ : WhereTo}
     → p ≡ placedOf (placeBy listed count counts (edgesFrom first last)) → p′ ≡ placedOf (placeBy listed count counts (edgesFrom first last)) → p ≡ p′
 place-once listed count counts first last = once

@@ -4,14 +4,14 @@ use Prim.Native.Nat.{ℕ}
 use Rattle.unit.specs.State.{freshState}
 use Rattle.listing.specs.Resuming.{Last, goOn, whole, bad, Place, afresh, second, on, over, no}
 use Rattle.resuming.specs.declared.last.Said.{Said}
-use Rattle.resuming.specs.declared.last.Listed.{Listed}
-use Rattle.resuming.specs.declared.last.Listed.the-variants.{GoOn, Whole, Bad}
+use Rattle.resuming.specs.declared.last.LastSays.{LastSays}
+use Rattle.resuming.specs.declared.last.LastSays.the-variants.{GoOn, Whole, Bad}
 use Rattle.resuming.specs.declared.place.Go.{Go}
 use Rattle.resuming.specs.declared.place.Go.the-variants.{Afresh, Second, On, Over, Refused}
-use Rattle.resuming.specs.declared.place.Placed.{Placed}
+use Rattle.resuming.specs.declared.place.WhereTo.{WhereTo}
 
 -- an answer without a state has the fresh one
-abbrev pub bareSaid : Listed → Said
+abbrev pub bareSaid : LastSays → Said
 bareSaid says = record { says = says; state = freshState }
 
 -- what the last kept line says
@@ -21,11 +21,11 @@ saidOf whole = bareSaid Whole
 saidOf bad = bareSaid Bad
 
 -- an answer without a state has the fresh one
-abbrev pub barePlaced : Go → Placed
+abbrev pub barePlaced : Go → WhereTo
 barePlaced go = record { go = go; state = freshState }
 
 -- where to go on
-unfoldable pub placedOf : Place → Placed
+unfoldable pub placedOf : Place → WhereTo
 placedOf afresh = barePlaced Afresh
 placedOf second = barePlaced Second
 placedOf (on s) = record { go = On; state = s }

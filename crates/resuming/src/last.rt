@@ -15,7 +15,7 @@ ghost use Rattle.listing.specs.Resuming.{stateAt, listedLast, frameLast, lastOf
 ghost use Rattle.resuming.specs.Last.{bareSaid, saidOf};
 
 // What the last kept line says.
-pub enum Listed {
+pub enum LastSays {
     // An 04 line: go on behind its record.
     GoOn,
     // An 05 or an 06 line: the listing is whole.
@@ -26,11 +26,11 @@ pub enum Listed {
 
 // The answer, and the state to go on from; a fresh one where there is none.
 pub struct Said {
-    pub says: Listed,
+    pub says: LastSays,
     pub state: State,
 }
 
-fn bare(says: Listed) -> Said
+fn bare(says: LastSays) -> Said
     ensures { λ r. ⌜ r ≡ bareSaid says ⌝ }
 {
     let state = State::fresh();
@@ -72,18 +72,18 @@ fn listed_last(line: &[u8], bytes: usize, count: u32, counts: [u32; State::SUBSE
     ensures { λ r. ⌜ r ≡ saidOf (listedLast count counts (unhex (now (line .entry)))) ⌝ }
 {
     if bytes < ListedLine::LEAST {
-        return bare(Listed::Bad);
+        return bare(LastSays::Bad);
     }
     let number = word_at(line, ListedLine::NUMBER);
     if count <= number {
-        return bare(Listed::Bad);
+        return bare(LastSays::Bad);
     }
     let state = state_at(line);
     if !state.within(&counts) {
-        return bare(Listed::Bad);
+        return bare(LastSays::Bad);
     }
     Said {
-        says: Listed::GoOn,
+        says: LastSays::GoOn,
         state,
     }
 }
@@ -99,17 +99,17 @@ fn frame_last(line: &[u8], bytes: usize, count: u32, counts: [u32; State::SUBSEQ
     }
     if kind == Kind::REFUSED {
         if bytes == ListedLine::BYTES_05 {
-            return bare(Listed::Whole);
+            return bare(LastSays::Whole);
         }
-        return bare(Listed::Bad);
+        return bare(LastSays::Bad);
     }
     if kind == Kind::DONE {
         if bytes == ListedLine::BYTES_06 {
-            return bare(Listed::Whole);
+            return bare(LastSays::Whole);
         }
-        return bare(Listed::Bad);
+        return bare(LastSays::Bad);
     }
-    bare(Listed::Bad)
+    bare(LastSays::Bad)
 }
 
 // What the last kept line says of a unit with so many records and symbols. Where the front of the files is refused there is no record: the count is 0.
@@ -117,7 +117,7 @@ pub fn last_line(line: &[u8], count: u32, counts: [u32; State::SUBSEQUENCES]) ->
     ensures { λ r. ⌜ r ≡ saidOf (lastOf count counts (now (line .entry))) ⌝ }
 {
     let Line::Frame(bytes) = line_within(line, ListedLine::DIGITS) else {
-        return bare(Listed::Bad);
+        return bare(LastSays::Bad);
     };
     frame_last(line, bytes, count, counts)
 }

@@ -1,5 +1,5 @@
 // Where a listing that was stopped goes on, by its first and its last kept line.
-use crate::last::Listed;
+use crate::last::LastSays;
 use crate::last::last_line;
 use unit::State;
 ghost use mathlib.Core.Path.{_≡_};
@@ -22,16 +22,16 @@ pub enum Go {
 }
 
 // The answer, and the state to go on from; a fresh one where there is none.
-pub struct Placed {
+pub struct WhereTo {
     pub go: Go,
     pub state: State,
 }
 
-fn bare(go: Go) -> Placed
+fn bare(go: Go) -> WhereTo
     ensures { λ r. ⌜ r ≡ barePlaced go ⌝ }
 {
     let state = State::fresh();
-    Placed { go, state }
+    WhereTo { go, state }
 }
 
 fn same(a: &[u8], b: &[u8]) -> bool
@@ -52,16 +52,16 @@ fn same(a: &[u8], b: &[u8]) -> bool
 }
 
 // Behind a last kept line that is not the listing's first one.
-fn behind(last: &[u8], count: u32, counts: [u32; State::SUBSEQUENCES]) -> Placed
+fn behind(last: &[u8], count: u32, counts: [u32; State::SUBSEQUENCES]) -> WhereTo
     ensures { λ r. ⌜ r ≡ placedOf (onLast (lastOf count counts (now (last .entry)))) ⌝ }
 {
     let said = last_line(last, count, counts);
     let says = said.says;
     let state = said.state;
     match says {
-        Listed::GoOn => Placed { go: Go::On, state },
-        Listed::Whole => bare(Go::Over),
-        Listed::Bad => bare(Go::Refused(refusal::OTHER_LAST)),
+        LastSays::GoOn => WhereTo { go: Go::On, state },
+        LastSays::Whole => bare(Go::Over),
+        LastSays::Bad => bare(Go::Refused(refusal::OTHER_LAST)),
     }
 }
 
@@ -72,7 +72,7 @@ pub fn place(
     counts: [u32; State::SUBSEQUENCES],
     first: &[u8],
     last: &[u8],
-) -> Placed
+) -> WhereTo
     ensures { λ r. ⌜ r ≡ placedOf (placeBy (now (listed .entry)) count counts (edgesFrom (now (first .entry)) (now (last .entry)))) ⌝ }
 {
     if first.len() == 0 {

@@ -1,5 +1,8 @@
+pub mod SegmentLaws
+pub mod PlaceLaws
+pub mod WriteLaws
 pub mod Steps
-pub mod SymbolLaws
-pub mod ReadyLaws
 pub mod Unique
 pub mod RefusalLaws
+pub mod BytesLaws
+pub mod StandardLaws

@@ -1,136 +1,59 @@
--- A block is refused by a number of document 01's table below 17.
+-- A segment is refused by a number of document 01's table below 17.
 -- Assumes nothing.
 use mathlib.Core.List.{List}
-use Prim.Native.Nat.{ℕ, zero, suc, _+_}
-use lib.Dec.{ltb, leb, eqb, lit<}
-use lib.ListN.{length, getD}
-use Rattle.refusal.specs.Numbers.{Early}
-use Rattle.frame.specs.Field.{fieldAt}
-use Rattle.frame.specs.declared.field.Cursor.{Cursor}
+use Prim.Native.Nat.{ℕ, _+_}
+use lib.Dec.{ltb, lit<}
+use Rattle.refusal.specs.Numbers.{Early, FineOrEarly}
+use Rattle.refusal.proofs.RefusalLaws.{by-number}
 use Rattle.frame.proofs.Tests.{one-of}
-use Rattle.frame.proofs.StepLaws.{by-field}
-use Rattle.alphabet.specs.Table35.{sizeOf}
-use Rattle.unit.specs.Unit.{classP, classI}
-use Rattle.block.specs.Segment.{mostRead, mostEdits, softBases, mappedLength}
-use Rattle.block.specs.declared.Clips.{Clips}
-use Rattle.block.specs.declared.Segment.{Segment}
-use Rattle.ecigar.specs.Check.{checkOf}
-use Rattle.ecigar.specs.declared.check.Checked.{Checked as EditsChecked}
-use Rattle.ecigar.specs.declared.check.Checked.the-variants as edits
-use Rattle.ecigar.proofs.RefusalLaws.{EarlyEdits, check-early}
-use Rattle.segment.specs.Checked.{lengthAt, rcompAt, countAt, afterChecked}
-use Rattle.segment.specs.Symbols.{symbolsFrom}
-use Rattle.segment.specs.Clips.{clipsIn, clipsAt}
-use Rattle.segment.specs.Aligned.{afterEdits, tallied, fromEdits, fromSoft, afterClips, fromClips, fromRcomp, alignedAt}
-use Rattle.segment.specs.Unaligned.{fromLength, unalignedAt}
-use Rattle.segment.specs.declared.checked.Checked.{Checked}
-use Rattle.segment.specs.declared.checked.Checked.the-variants as checked
-use Rattle.segment.specs.declared.clips.Clipped.{Clipped}
-use Rattle.segment.specs.declared.clips.Clipped.the-variants as clips
-use Rattle.segment.specs.declared.aligned.AlignedBlock.{AlignedBlock}
-use Rattle.segment.specs.declared.aligned.AlignedBlock.the-variants as aligned
-use Rattle.segment.specs.declared.unaligned.UnalignedBlock.{UnalignedBlock}
-use Rattle.segment.specs.declared.unaligned.UnalignedBlock.the-variants as unaligned
+use Rattle.unit.specs.declared.Unit.{Unit as UnitOf}
+use Rattle.bases.proofs.RefusalLaws.{under-early}
+use Rattle.segment.specs.Place.{placeRefusal}
+use Rattle.block.specs.Aligned.{alignedAt}
+use Rattle.block.specs.Unaligned.{unalignedAt}
+use Rattle.segment.specs.Segment.{unlessRefused, underMatches, placed, afterBlock, placedAt, afterPlain, plainAt}
+use Rattle.block.specs.declared.aligned.AlignedRead.{AlignedRead}
+use Rattle.block.specs.declared.aligned.AlignedRead.the-variants as aligned
+use Rattle.block.specs.declared.unaligned.UnalignedRead.{UnalignedRead}
+use Rattle.block.specs.declared.unaligned.UnalignedRead.the-variants as unaligned
+use Rattle.segment.specs.declared.SegmentRead.{SegmentRead}
+use Rattle.segment.specs.declared.SegmentRead.the-variants as segment
+use Rattle.block.proofs.RefusalLaws.{EarlyBlock, EarlyPlain, aligned-early, unaligned-early}
 
--- ---- what is said of each answer
+-- ---- what is said of the answer
 
-abbrev EarlyField : Checked → Type 0
-EarlyField (checked.Value v next) = Unit
-EarlyField (checked.Refused n) = Early n
+abbrev pub EarlySegment : SegmentRead → Type 0
+EarlySegment (segment.Whole p next) = Unit
+EarlySegment (segment.Refused n) = Early n
 
-abbrev EarlyClips : Clipped → Type 0
-EarlyClips (clips.Whole c next) = Unit
-EarlyClips (clips.Refused n) = Early n
+-- ---- a segment's place
 
-abbrev pub EarlyBlock : AlignedBlock → Type 0
-EarlyBlock (aligned.Whole a) = Unit
-EarlyBlock (aligned.Refused n) = Early n
+place-early : (start end position taken : ℕ) → FineOrEarly (placeRefusal start end position taken)
+unfolding placeRefusal
+place-early start end position taken =
+    one-of FineOrEarly (ltb position start) _ _ (lit< tt)
+    (one-of FineOrEarly (ltb end position) _ _ (lit< tt)
+    (one-of FineOrEarly (ltb (end + 1) (position + taken)) _ _ (lit< tt) (lit< tt)))
 
-abbrev pub EarlyPlain : UnalignedBlock → Type 0
-EarlyPlain (unaligned.Whole s) = Unit
-EarlyPlain (unaligned.Refused n) = Early n
+-- ---- a segment
 
--- ---- a checked field keeps to it where each way it can go does
+unless-early : (number : ℕ) (go : SegmentRead) → FineOrEarly number → EarlySegment go → EarlySegment (unlessRefused number go)
+unless-early number go h k = by-number EarlySegment number _ _ h k (λ e. e)
 
-by-checked : {X : Type 0} (P : X → Type 0) (refused : ℕ → X) (x : Checked) (f : ℕ → Cursor → X) → ((n : ℕ) → Early n → P (refused n)) → EarlyField x → ((v : ℕ) (c : Cursor) → P (f v c)) → P (afterChecked refused x f)
-by-checked P refused (checked.Value v c) f h e k = k v c
-by-checked P refused (checked.Refused n) f h e k = h n e
-
--- ---- the fields of a block
-
-length-early : (frame : List ℕ) (at : ℕ) → EarlyField (lengthAt frame at)
-unfolding lengthAt
-length-early frame at =
-    by-field EarlyField (fieldAt 2 frame at) _ _ (lit< tt, lit< tt)
-    (λ v c. one-of EarlyField (ltb v 1) _ _ (lit< tt, lit< tt) (one-of EarlyField (ltb mostRead v) _ _ (lit< tt, lit< tt) tt))
-
-rcomp-early : (frame : List ℕ) (at : ℕ) → EarlyField (rcompAt frame at)
-unfolding rcompAt
-rcomp-early frame at = by-field EarlyField (fieldAt 1 frame at) _ _ (lit< tt, lit< tt) (λ v c. one-of EarlyField (ltb 1 v) _ _ (lit< tt, lit< tt) tt)
-
-count-early : (frame : List ℕ) (at : ℕ) → EarlyField (countAt frame at)
-unfolding countAt
-count-early frame at = by-field EarlyField (fieldAt 2 frame at) _ _ (lit< tt, lit< tt) (λ v c. one-of EarlyField (ltb mostEdits v) _ _ (lit< tt, lit< tt) tt)
-
-symbols-early : (alphabet : ℕ) (frame : List ℕ) (count k at : ℕ) → EarlyField (symbolsFrom alphabet frame count k at)
-unfolding symbolsFrom
-symbols-early alphabet frame count zero at = tt
-symbols-early alphabet frame count (suc k) at =
-    one-of EarlyField (leb (length frame) at) _ _ (lit< tt, lit< tt)
-    (one-of EarlyField (leb (sizeOf alphabet) (getD frame at 0)) _ _ (lit< tt, lit< tt) (symbols-early alphabet frame count k (at + 1)))
-
-clips-early : (frame : List ℕ) (length at : ℕ) → EarlyClips (clipsAt frame length at)
-unfolding clipsAt clipsIn
-clips-early frame length at =
-    by-field EarlyClips (fieldAt 2 frame at) _ _ (lit< tt, lit< tt)
-    (λ ls a. by-field EarlyClips (fieldAt 2 frame (a .at)) _ _ (lit< tt, lit< tt)
-    (λ lh b. by-field EarlyClips (fieldAt 2 frame (b .at)) _ _ (lit< tt, lit< tt)
-    (λ rs c. by-field EarlyClips (fieldAt 2 frame (c .at)) _ _ (lit< tt, lit< tt)
-    (λ rh d. one-of EarlyClips (leb length (ls + rs)) _ _ (lit< tt, lit< tt) tt))))
-
--- ---- a block
-
-tallied-early : (class alphabet : ℕ) (frame : List ℕ) (s : Segment) → EarlyBlock (tallied class alphabet frame s)
-unfolding tallied
-tallied-early class alphabet frame s =
-    let mapped = mappedLength (s .length) (s .clips) in
-    by (checkOf class alphabet frame (s .«edits_at») (s .edits) mapped) (check-early class alphabet frame (s .«edits_at») (s .edits) mapped)
+pub placed-early : (u : UnitOf) (reference frame : List ℕ) (position at : ℕ) → EarlySegment (placedAt u reference frame position at)
+unfolding placedAt placed
+placed-early u reference frame position at = by (alignedAt (u .class) (u .alphabet) frame at) (aligned-early (u .class) (u .alphabet) frame at)
   where
-    by : (x : EditsChecked) → EarlyEdits x → EarlyBlock (afterEdits class s x)
-    by (edits.Fine taken text) h = tt
-    by (edits.Refused n) h = h
+    by : (x : AlignedRead) → EarlyBlock x → EarlySegment (afterBlock u reference frame position x)
+    by (aligned.Whole a) h =
+        unless-early (placeRefusal (u .start) (u .end) position (a .taken)) _ (place-early (u .start) (u .end) position (a .taken))
+        (unless-early (underMatches u reference frame position (a .block)) _ (under-early (u .alphabet) reference (u .first) _ _ _) tt)
+    by (aligned.Refused n) h = h
 
-from-edits-early : (class alphabet : ℕ) (frame : List ℕ) (length rcomp : ℕ) (c : Clips) (softAt at : ℕ) → EarlyBlock (fromEdits class alphabet frame length rcomp c softAt at)
-unfolding fromEdits
-from-edits-early class alphabet frame length rcomp c softAt at =
-    one-of EarlyBlock (eqb class classP) _ _ (tallied-early class alphabet frame _)
-    (by-checked EarlyBlock _ (countAt frame at) _ (λ n h. h) (count-early frame at) (λ count next. tallied-early class alphabet frame _))
-
-soft-early : (class alphabet : ℕ) (frame : List ℕ) (length rcomp : ℕ) (c : Clips) (at : ℕ) → EarlyBlock (fromSoft class alphabet frame length rcomp c at)
-unfolding fromSoft
-soft-early class alphabet frame length rcomp c at =
-    by-checked EarlyBlock _ (symbolsFrom alphabet frame (softBases c) (softBases c) at) _ (λ n h. h) (symbols-early alphabet frame (softBases c) (softBases c) at)
-    (λ count next. from-edits-early class alphabet frame length rcomp c at (next .at))
-
-from-clips-early : (class alphabet : ℕ) (frame : List ℕ) (length rcomp at : ℕ) → EarlyBlock (fromClips class alphabet frame length rcomp at)
-unfolding fromClips
-from-clips-early class alphabet frame length rcomp at =
-    one-of EarlyBlock (ltb class classI) _ _ (from-edits-early class alphabet frame length rcomp _ at at) (by (clipsAt frame length at) (clips-early frame length at))
+pub plain-early : (u : UnitOf) (frame : List ℕ) (at : ℕ) → EarlySegment (plainAt u frame at)
+unfolding plainAt
+plain-early u frame at = by (unalignedAt (u .alphabet) frame at) (unaligned-early (u .alphabet) frame at)
   where
-    by : (x : Clipped) → EarlyClips x → EarlyBlock (afterClips class alphabet frame length rcomp x)
-    by (clips.Whole c next) h = soft-early class alphabet frame length rcomp c (next .at)
-    by (clips.Refused n) h = h
-
-pub aligned-early : (class alphabet : ℕ) (frame : List ℕ) (at : ℕ) → EarlyBlock (alignedAt class alphabet frame at)
-unfolding alignedAt fromRcomp
-aligned-early class alphabet frame at =
-    by-checked EarlyBlock _ (lengthAt frame at) _ (λ n h. h) (length-early frame at)
-    (λ length next. by-checked EarlyBlock _ (rcompAt frame (next .at)) _ (λ n h. h) (rcomp-early frame (next .at))
-    (λ rcomp last. from-clips-early class alphabet frame length rcomp (last .at)))
-
-pub unaligned-early : (alphabet : ℕ) (frame : List ℕ) (at : ℕ) → EarlyPlain (unalignedAt alphabet frame at)
-unfolding unalignedAt fromLength
-unaligned-early alphabet frame at =
-    by-checked EarlyPlain _ (lengthAt frame at) _ (λ n h. h) (length-early frame at)
-    (λ length next. by-checked EarlyPlain _ (symbolsFrom alphabet frame length length (next .at)) _ (λ n h. h) (symbols-early alphabet frame length length (next .at))
-    (λ count last. tt))
+    by : (x : UnalignedRead) → EarlyPlain x → EarlySegment (afterPlain x)
+    by (unaligned.Whole s) h = tt
+    by (unaligned.Refused n) h = h

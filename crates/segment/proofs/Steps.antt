@@ -1,47 +1,42 @@
--- The steps of a definition that goes by checked fields, clips and edits: each turns what the code has learnt into the branch that is taken, so that
--- `search` walks the definition by itself.
+-- The steps of a definition that goes by a block's answer and by numbers that refuse, for `search`.
 -- Assumes nothing.
 use mathlib.Core.Path.{_≡_}
 use mathlib.Core.List.{List}
 use Prim.Native.Nat.{ℕ}
-use Rattle.frame.specs.declared.field.Cursor.{Cursor}
-use Rattle.block.specs.declared.Clips.{Clips}
-use Rattle.block.specs.declared.Segment.{Segment}
-use Rattle.ecigar.specs.declared.check.Checked.{Checked as EditsChecked}
-use Rattle.ecigar.specs.declared.check.Checked.the-variants as edits
-use Rattle.segment.specs.Checked.{afterChecked}
-use Rattle.segment.specs.Aligned.{afterClips, afterEdits, fromSoft}
-use Rattle.segment.specs.declared.aligned.Aligned.{Aligned}
-use Rattle.segment.specs.declared.checked.Checked.{Checked}
-use Rattle.segment.specs.declared.checked.Checked.the-variants.{Value, Refused}
-use Rattle.segment.specs.declared.clips.Clipped.{Clipped}
-use Rattle.segment.specs.declared.clips.Clipped.the-variants as clips
-use Rattle.segment.specs.declared.aligned.AlignedBlock.{AlignedBlock}
-use Rattle.segment.specs.declared.aligned.AlignedBlock.the-variants as block
+use borrow.Author.Tests.{ne-eqb}
+use Rattle.unit.specs.declared.Unit.{Unit}
+use Rattle.segment.specs.Segment.{unlessRefused, placed, afterBlock, afterPlain}
+use Rattle.segment.specs.declared.SegmentRead.{SegmentRead}
+use Rattle.segment.specs.declared.SegmentRead.the-variants as segment
+use Rattle.block.specs.declared.aligned.AlignedBlock.{AlignedBlock}
+use Rattle.block.specs.declared.unaligned.UnalignedBlock.{UnalignedBlock}
+use Rattle.block.specs.declared.unaligned.UnalignedRead.{UnalignedRead}
+use Rattle.block.specs.declared.unaligned.UnalignedRead.the-variants as unaligned
+use Rattle.block.specs.declared.checked.CheckedField.the-variants.{Refused}
+use Rattle.block.specs.declared.aligned.AlignedRead.{AlignedRead}
+use Rattle.block.specs.declared.aligned.AlignedRead.the-variants as block
 
--- ---- a checked field
+-- ---- a number that refuses, or not
 
-module _ {A : Type 0} (x : A) (answer field : Checked) (refused : ℕ → A) (f : ℕ → Cursor → A) where
-  pub accepted : (v : ℕ) (c : Cursor) → answer ≡ field → answer ≡ Value v c → x ≡ f v c → x ≡ afterChecked refused field f
-  accepted v c e h k = rw (← e, h) k
+module _ (x : SegmentRead) (answer number : ℕ) (go : SegmentRead) where
+  pub passes : answer ≡ number → answer ≡ 0 → x ≡ go → x ≡ unlessRefused number go
+  passes e h k = rw (← e, h) k
 
-  pub rejected : (n : ℕ) → answer ≡ field → answer ≡ Refused n → x ≡ refused n → x ≡ afterChecked refused field f
-  rejected n e h k = rw (← e, h) k
+  pub stops : answer ≡ number → (answer ≡ 0 → ⊥) → x ≡ segment.Refused answer → x ≡ unlessRefused number go
+  stops e h k = rw (← e, ne-eqb _ _ h) k
 
--- ---- the clips
+-- ---- a block
 
-module _ (x : AlignedBlock) (answer spec : Clipped) (class alphabet : ℕ) (frame : List ℕ) (length rcomp : ℕ) where
-  pub clipped : (c : Clips) (next : Cursor) → answer ≡ spec → answer ≡ clips.Whole c next → x ≡ fromSoft class alphabet frame length rcomp c (next .at) → x ≡ afterClips class alphabet frame length rcomp spec
-  clipped c next e h k = rw (← e, h) k
+module _ (x : SegmentRead) (u : Unit) (reference frame : List ℕ) (position : ℕ) (answer spec : AlignedRead) where
+  pub blocked : (a : AlignedBlock) → answer ≡ spec → answer ≡ block.Whole a → x ≡ placed u reference frame position a → x ≡ afterBlock u reference frame position spec
+  blocked a e h k = rw (← e, h) k
 
-  pub unclipped : (n : ℕ) → answer ≡ spec → answer ≡ clips.Refused n → x ≡ block.Refused n → x ≡ afterClips class alphabet frame length rcomp spec
-  unclipped n e h k = rw (← e, h) k
+  pub unblocked : (n : ℕ) → answer ≡ spec → answer ≡ block.Refused n → x ≡ segment.Refused n → x ≡ afterBlock u reference frame position spec
+  unblocked n e h k = rw (← e, h) k
 
--- ---- the edits
+module _ (x : SegmentRead) (answer spec : UnalignedRead) where
+  pub plain : (s : UnalignedBlock) → answer ≡ spec → answer ≡ unaligned.Whole s → x ≡ afterPlain (unaligned.Whole s) → x ≡ afterPlain spec
+  plain s e h k = rw (← e, h) k
 
-module _ (x : AlignedBlock) (answer spec : EditsChecked) (class : ℕ) (s : Segment) where
-  pub edited : (taken text : ℕ) → answer ≡ spec → answer ≡ edits.Fine taken text → x ≡ afterEdits class s (edits.Fine taken text) → x ≡ afterEdits class s spec
-  edited taken text e h k = rw (← e, h) k
-
-  pub unedited : (n : ℕ) → answer ≡ spec → answer ≡ edits.Refused n → x ≡ block.Refused n → x ≡ afterEdits class s spec
-  unedited n e h k = rw (← e, h) k
+  pub no-plain : (n : ℕ) → answer ≡ spec → answer ≡ unaligned.Refused n → x ≡ segment.Refused n → x ≡ afterPlain spec
+  no-plain n e h k = rw (← e, h) k

@@ -1,16 +1,19 @@
--- Each public promise admits one outcome: two answers that meet it are the same.
+-- Each public promise admits one outcome: two answers that meet it are the same. `write` promises `Laid`: `laid-once` of writing.
 -- Assumes nothing.
 use mathlib.Core.Path.{_≡_}
 use mathlib.Core.List.{List}
 use Prim.Native.Nat.{ℕ}
 use Rattle.frame.proofs.Unique.{once}
-use Rattle.segment.specs.Aligned.{alignedAt}
-use Rattle.segment.specs.Unaligned.{unalignedAt}
-use Rattle.segment.specs.declared.aligned.AlignedBlock.{AlignedBlock}
-use Rattle.segment.specs.declared.unaligned.UnalignedBlock.{UnalignedBlock}
+use Rattle.unit.specs.declared.Unit.{Unit}
+use Rattle.segment.specs.Segment.{placedAt, plainAt, segmentLength}
+use Rattle.segment.specs.declared.Segment.{Segment}
+use Rattle.segment.specs.declared.SegmentRead.{SegmentRead}
 
-pub read-unaligned-block-once : (alphabet : ℕ) (frame : List ℕ) (at : ℕ) {x y : UnalignedBlock} → x ≡ unalignedAt alphabet frame at → y ≡ unalignedAt alphabet frame at → x ≡ y
-read-unaligned-block-once alphabet frame at p q = once p q
+pub read-aligned-once : (u : Unit) (reference frame : List ℕ) (position at : ℕ) {x y : SegmentRead} → x ≡ placedAt u reference frame position at → y ≡ placedAt u reference frame position at → x ≡ y
+read-aligned-once u reference frame position at p q = once p q
 
-pub read-block-once : (class alphabet : ℕ) (frame : List ℕ) (at : ℕ) {x y : AlignedBlock} → x ≡ alignedAt class alphabet frame at → y ≡ alignedAt class alphabet frame at → x ≡ y
-read-block-once class alphabet frame at p q = once p q
+pub read-unaligned-once : (u : Unit) (frame : List ℕ) (at : ℕ) {x y : SegmentRead} → x ≡ plainAt u frame at → y ≡ plainAt u frame at → x ≡ y
+read-unaligned-once u frame at p q = once p q
+
+pub bytes-once : (p : Segment) {x y : ℕ} → x ≡ segmentLength p → y ≡ segmentLength p → x ≡ y
+bytes-once p e f = once e f

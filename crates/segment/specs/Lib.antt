@@ -1,5 +1,4 @@
-pub mod Checked
-pub mod Clips
-pub mod Symbols
-pub mod Unaligned
-pub mod Aligned
+pub mod Segment
+pub mod Place
+pub mod Ready
+pub mod Listed

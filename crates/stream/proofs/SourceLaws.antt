@@ -18,10 +18,10 @@ use Rattle.frame.specs.declared.line.Next.the-variants.{Whole, TooLong, NoEnd}
 use Rattle.frame.proofs.HexLaws.{by-test, false-true}
 use Rattle.resuming.specs.Pass.{passOver}
 use Rattle.resuming.proofs.PassLaws.{pass-within}
-use Rattle.stream.specs.Source.{unreadable, Held, Leads, Some, Filled, Refilled, Ready, bytesBy, lineBytes, HandedLine}
+use Rattle.stream.specs.Source.{unreadable, Held, Leads, Some, Filled, Refilled, WaitsFor, bytesBy, lineBytes, HandedLine}
 use Rattle.resuming.specs.declared.pass.Passed.{Passed}
 use Rattle.stream.specs.declared.source.Source.{Source}
-use Rattle.stream.specs.declared.source.Taken.{Taken}
+use Rattle.stream.specs.declared.source.LineAt.{LineAt}
 
 -- ---- bytes moved to the front
 
@@ -92,13 +92,13 @@ filling-read {before} {start} {after} {end} f ys e =
     long = same-len-mid end (length after - end) after ys e
 
 -- and it brought k bytes
-pub record Turn (before : List ℕ) (start : ℕ) (after : List ℕ) (end : ℕ) (ys : List ℕ) (k : ℕ) : Type 0 where
+pub record LineTurn (before : List ℕ) (start : ℕ) (after : List ℕ) (end : ℕ) (ys : List ℕ) (k : ℕ) : Type 0 where
   pub fits : end + k ≤ length after
   pub less : length (putMid end (length after - end) after ys) - (end + k) < length after - end
   pub filling : Filling before start (putMid end (length after - end) after ys) (end + k)
 
 pub filling-turn : {before : List ℕ} {start : ℕ} {after : List ℕ} {end k : ℕ} → Filling before start after end → (ys : List ℕ)
-    → length ys ≡ length (midOf end (length after - end) after) → Some (length ys) k → Turn before start after end ys k
+    → length ys ≡ length (midOf end (length after - end) after) → Some (length ys) k → LineTurn before start after end ys k
 filling-turn {before} {start} {after} {end} {k} f ys e b =
     record {
       fits = fits;
@@ -141,7 +141,7 @@ refilled {before} {shifted} {after} {s} {m} {r} n h en zero-at at-n moved f =
 -- ---- so many bytes are there, or all that the file has left
 
 module _ (wanted : ℕ) where
-  pub ready-unreadable : (buf : List ℕ) (s : Source) (fd : ℤ) {r : Source} → r ≡ unreadable fd → (Held (length buf) s → ⊥) → Ready wanted buf s buf r
+  pub ready-unreadable : (buf : List ℕ) (s : Source) (fd : ℤ) {r : Source} → r ≡ unreadable fd → (Held (length buf) s → ⊥) → WaitsFor wanted buf s buf r
   ready-unreadable buf s fd e bad =
       record {
         held = rw e (record { order = omega arith; inside = omega arith });
@@ -149,13 +149,13 @@ module _ (wanted : ℕ) where
         enough = λ o. false-true (sym o ∙ ap (λ (q : Source). q .ended) e);
       }
 
-  pub ready-ended : (buf : List ℕ) (s : Source) → Held (length buf) s → s .ended ≡ true → Ready wanted buf s buf s
+  pub ready-ended : (buf : List ℕ) (s : Source) → Held (length buf) s → s .ended ≡ true → WaitsFor wanted buf s buf s
   ready-ended buf s h e = record { held = h; leads = leads-same buf s; enough = λ o. false-true (sym o ∙ e) }
 
-  pub ready-enough : (buf : List ℕ) (s : Source) → Held (length buf) s → wanted ≤ s .end - s .at → Ready wanted buf s buf s
+  pub ready-enough : (buf : List ℕ) (s : Source) → Held (length buf) s → wanted ≤ s .end - s .at → WaitsFor wanted buf s buf s
   ready-enough buf s h e = record { held = h; leads = leads-same buf s; enough = λ o w. e }
 
-  pub ready-refilled : {before after : List ℕ} {s r : Source} → Refilled before s after r → Ready wanted before s after r
+  pub ready-refilled : {before after : List ℕ} {s r : Source} → Refilled before s after r → WaitsFor wanted before s after r
   ready-refilled f = record { held = f .held; leads = λ h. f .leads; enough = λ o w. omega (arith, f .start, f .full o) }
 
 -- ---- the first line of what waits
@@ -197,7 +197,7 @@ line-fits a e n l h g q =
     let w = part-long a e l g in
     omega arith
 
-pub handed-line : {before after : List ℕ} {s r : Source} {t : Taken} (n : ℕ) → Ready (lineDigits + 1) before s after r → n ≡ lineBytes (take (r .end - r .at) (drop (r .at) after))
+pub handed-line : {before after : List ℕ} {s r : Source} {t : LineAt} (n : ℕ) → WaitsFor (lineDigits + 1) before s after r → n ≡ lineBytes (take (r .end - r .at) (drop (r .at) after))
     → t .from ≡ r .at → t .to ≡ r .at + n → t .source .at ≡ t .to → t .source .end ≡ r .end → t .source .ended ≡ r .ended → HandedLine before s after t
 handed-line {before} {after} {s} {r} {t} n f q from to next end ended =
     record {

@@ -12,7 +12,7 @@ use Rattle.frame.specs.Next.{nextLine}
 use Rattle.frame.specs.declared.line.Next.{Next}
 use Rattle.frame.specs.declared.line.Next.the-variants.{Whole, TooLong, NoEnd, Nothing}
 use Rattle.stream.specs.declared.source.Source.{Source}
-use Rattle.stream.specs.declared.source.Taken.{Taken}
+use Rattle.stream.specs.declared.source.LineAt.{LineAt}
 use Rattle.stream.specs.declared.source.Got.{Got}
 use Rattle.stream.specs.declared.source.Got.the-variants.{Bytes, End, Failed}
 
@@ -39,10 +39,10 @@ pub record Some (n k : ℕ) : Type 0 where
   pub more : 0 < k
   pub inside : k ≤ n
 
-abbrev pub Brought : ℕ → Got → Type 0
-Brought n (Bytes k) = Some n k
-Brought n End = Unit
-Brought n Failed = Unit
+abbrev pub WithinAsked : ℕ → Got → Type 0
+WithinAsked n (Bytes k) = Some n k
+WithinAsked n End = Unit
+WithinAsked n Failed = Unit
 
 -- bytes are read behind those that wait, up to the file's end or the buffer's
 pub record Filled (before : List ℕ) (s : Source) (after : List ℕ) (r : Source) : Type 0 where
@@ -60,7 +60,7 @@ pub record Refilled (before : List ℕ) (s : Source) (after : List ℕ) (r : Sou
   pub full : r .ended ≡ false → r .end ≡ length after
 
 -- so many bytes wait, where the buffer has room for them and the file does not end before
-pub record Ready (wanted : ℕ) (before : List ℕ) (s : Source) (after : List ℕ) (r : Source) : Type 0 where
+pub record WaitsFor (wanted : ℕ) (before : List ℕ) (s : Source) (after : List ℕ) (r : Source) : Type 0 where
   pub held : Held (length after) r
   pub leads : Held (length before) s → Leads before s after (r .at) (r .end)
   pub enough : r .ended ≡ false → wanted ≤ length after → wanted ≤ r .end - r .at
@@ -77,7 +77,7 @@ unfoldable pub lineBytes : List ℕ → ℕ
 lineBytes s = bytesBy (length s) (nextLine s)
 
 -- what is handed on is a part of the buffer, and the file goes on behind it
-pub record Handed (wanted : ℕ) (before : List ℕ) (s : Source) (after : List ℕ) (t : Taken) : Type 0 where
+pub record Handed (wanted : ℕ) (before : List ℕ) (s : Source) (after : List ℕ) (t : LineAt) : Type 0 where
   pub order : t .from ≤ t .to
   pub inside : t .to ≤ length after
   pub next : t .source .at ≡ t .to
@@ -86,11 +86,11 @@ pub record Handed (wanted : ℕ) (before : List ℕ) (s : Source) (after : List 
   pub enough : t .source .ended ≡ false → wanted ≤ length after → wanted ≤ t .source .end - t .from
 
 -- it is the first line of the bytes that wait; a longest line is among them, or all that the file has left
-pub record HandedLine (before : List ℕ) (s : Source) (after : List ℕ) (t : Taken) : Type 0 where
+pub record HandedLine (before : List ℕ) (s : Source) (after : List ℕ) (t : LineAt) : Type 0 where
   pub part : Handed (lineDigits + 1) before s after t
   pub line : t .to ≡ t .from + lineBytes (slice (t .from) (t .source .end) after)
 
 -- it is all the bytes that wait
-pub record HandedAll (before : List ℕ) (s : Source) (after : List ℕ) (t : Taken) : Type 0 where
+pub record HandedAll (before : List ℕ) (s : Source) (after : List ℕ) (t : LineAt) : Type 0 where
   pub part : Handed 1 before s after t
   pub all : t .to ≡ t .source .end

@@ -8,7 +8,7 @@ ghost use mathlib.Core.Path.{_≡_};
 ghost use Prim.Native.Nat.{_+_, _≤_};
 ghost use lib.ListN.{length, take as takeList};
 ghost use lib.Seq.{slice};
-ghost use Rattle.stream.specs.Source.{unread, unreadable as unreadableSource, Held, Brought, Filled, Refilled, Ready, lineBytes, HandedLine, HandedAll};
+ghost use Rattle.stream.specs.Source.{unread, unreadable as unreadableSource, Held, WithinAsked, Filled, Refilled, WaitsFor, lineBytes, HandedLine, HandedAll};
 
 // The bytes of the buffer from `at` to `end` are read and not handed on yet.
 pub struct Source {
@@ -21,14 +21,14 @@ pub struct Source {
 }
 
 // A part of the buffer, and the file behind it.
-pub struct Taken {
+pub struct LineAt {
     pub from: usize,
     pub to: usize,
     pub source: Source,
 }
 
 // How many 0A are still wanted, and the file behind those that went by.
-pub struct Passed {
+pub struct LinesPassed {
     pub left: usize,
     pub source: Source,
 }
@@ -86,7 +86,7 @@ impl Source {
 
 // At least a byte, where the answer is bytes.
 fn read_some(fd: i32, part: &mut [u8]) -> Got
-    ensures { λ r. ⌜ Brought (length (now (part .exit))) r ⌝ }
+    ensures { λ r. ⌜ WithinAsked (length (now (part .exit))) r ⌝ }
 {
     let got = libc::read(fd, part);
     if got < 0 {
@@ -174,7 +174,7 @@ fn refill(s: Source, buf: &mut [u8]) -> Source
 
 // Sees to it that so many bytes stand in the buffer, or all that the file has left, or all that there is room for.
 pub fn ready(s: Source, buf: &mut [u8], wanted: usize) -> Source
-    ensures { λ r. ⌜ Ready wanted (now (buf .entry)) s (now (buf .exit)) r ⌝ }
+    ensures { λ r. ⌜ WaitsFor wanted (now (buf .entry)) s (now (buf .exit)) r ⌝ }
 {
     if s.end < s.at {
         return Source::unreadable(s.fd);
@@ -204,7 +204,7 @@ fn line_bytes(left: &[u8]) -> usize
 }
 
 // The next line, where the buffer has room for a longest one; empty at the file's end.
-pub fn take(s: Source, buf: &mut [u8]) -> Taken
+pub fn take(s: Source, buf: &mut [u8]) -> LineAt
     ensures { λ r. ⌜ HandedLine (now (buf .entry)) s (now (buf .exit)) r ⌝ }
 {
     let r = ready(s, buf, Line::DIGITS + 1);
@@ -218,11 +218,11 @@ pub fn take(s: Source, buf: &mut [u8]) -> Taken
         ended: r.ended,
         failed: r.failed,
     };
-    Taken { from, to, source }
+    LineAt { from, to, source }
 }
 
 // All that stands in the buffer, which is filled where nothing does; empty at the file's end.
-pub fn piece(s: Source, buf: &mut [u8]) -> Taken
+pub fn piece(s: Source, buf: &mut [u8]) -> LineAt
     ensures { λ r. ⌜ HandedAll (now (buf .entry)) s (now (buf .exit)) r ⌝ }
 {
     let r = ready(s, buf, 1);
@@ -235,7 +235,7 @@ pub fn piece(s: Source, buf: &mut [u8]) -> Taken
         ended: r.ended,
         failed: r.failed,
     };
-    Taken {
+    LineAt {
         from,
         to: end,
         source,
@@ -243,7 +243,7 @@ pub fn piece(s: Source, buf: &mut [u8]) -> Taken
 }
 
 // Passes over what stands in the buffer, until 0A went by so many times.
-fn pass_piece(s: Source, buf: &mut [u8], want: usize) -> Passed {
+fn pass_piece(s: Source, buf: &mut [u8], want: usize) -> LinesPassed {
     let r = ready(s, buf, 1);
     let from = r.at;
     let end = r.end;
@@ -255,15 +255,15 @@ fn pass_piece(s: Source, buf: &mut [u8], want: usize) -> Passed {
         ended: r.ended,
         failed: r.failed,
     };
-    Passed {
+    LinesPassed {
         left: p.left,
         source,
     }
 }
 
 // Passes over so many lines by their 0A. Nothing says that a file ends, so the loop counts its turns down, from a number that no run uses up.
-pub fn pass_lines(s: Source, buf: &mut [u8], want: usize) -> Passed {
-    let mut p = Passed {
+pub fn pass_lines(s: Source, buf: &mut [u8], want: usize) -> LinesPassed {
+    let mut p = LinesPassed {
         left: want,
         source: s,
     };

@@ -11,7 +11,7 @@ use Rattle.frame.specs.Hex.{Bytes, be}
 use Rattle.frame.proofs.HexLaws.{length-be, bytes-be, bytes-append}
 use Rattle.writing.proofs.LayLaws.{Rest, rest-room}
 use Rattle.unit.specs.Kinds.{kindListed}
-use Rattle.unit.specs.Listed.{words, headOf}
+use Rattle.unit.specs.Listed.{words, listedHead}
 use Rattle.unit.specs.declared.State.{State}
 
 -- ---- the indexes, and the head
@@ -21,8 +21,8 @@ unfolding words
 length-words [] = refl
 length-words (x ∷ xs) = omega (arith, length-append (be 2 x) (words xs), length-be 2 x, length-words xs)
 
-pub length-head : (number : ℕ) (next : State) → length (headOf number next) ≡ 3 + 2 * length (next .index)
-unfolding headOf
+pub length-head : (number : ℕ) (next : State) → length (listedHead number next) ≡ 3 + 2 * length (next .index)
+unfolding listedHead
 length-head number next = simp (length-append, length-be, length-words)
 
 pub bytes-words : (xs : List ℕ) → Bytes (words xs)
@@ -30,8 +30,8 @@ unfolding words Bytes
 bytes-words [] = tt
 bytes-words (x ∷ xs) = bytes-append (be 2 x) (words xs) (bytes-be 2 x) (bytes-words xs)
 
-pub bytes-head : (number : ℕ) (next : State) → Bytes (headOf number next)
-unfolding headOf
+pub bytes-head : (number : ℕ) (next : State) → Bytes (listedHead number next)
+unfolding listedHead
 bytes-head number next =
     simp append-assoc
     (bytes-append (be 1 kindListed) _ (bytes-be 1 kindListed)

@@ -20,8 +20,8 @@ words [] = []
 words (x ∷ xs) = be 2 x ++ words xs
 
 -- an 04 line begins with its kind, the record number u16 and "the eight pair indexes after this record u16 each"
-unfoldable pub headOf : ℕ → State → List ℕ
-headOf number next = be 1 kindListed ++ be 2 number ++ words (next .index)
+unfoldable pub listedHead : ℕ → State → List ℕ
+listedHead number next = be 1 kindListed ++ be 2 number ++ words (next .index)
 
 -- where the head has the record number
 abbrev pub numberPlace : ℕ

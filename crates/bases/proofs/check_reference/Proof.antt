@@ -2,7 +2,7 @@
 use mathlib.Core.Path.{_≡_, sym, _∙_}
 use native.Mathlib.Omega.{arith}
 use Rattle.frame.specs.Hex.{unhex}
-use Rattle.block.specs.Edits.{editsAt}
+use Rattle.edits.specs.Edits.{editsAt}
 use Rattle.bases.specs.Bases.{refusalFrom, referenceRefusal}
 use Rattle.bases.proofs.BasesLaws.{Walk, walk-start, walk-on, walk-near, walk-room, refusal-start, refusal-on, refusal-out, refusal-end}
 use borrow.Author.Needs.{needs}

@@ -3,7 +3,7 @@ use mathlib.Core.Path.{_∙_}
 use native.Mathlib.Omega.{arith}
 use Rattle.frame.specs.Hex.{unhex}
 use Rattle.writing.proofs.LayLaws.{Rest, rest-put, rest-room-end, rest-end, rest-from}
-use Rattle.block.specs.Edits.{editsAt}
+use Rattle.edits.specs.Edits.{editsAt}
 use Rattle.bases.specs.Bases.{basesFrom, mappedBases}
 use Rattle.bases.proofs.ReferenceLaws.{length-matched}
 use Rattle.bases.proofs.BasesLaws.{Walk, walk-start, walk-on, walk-near, walk-room, bases-start, bases-on, bases-room, bases-end}

@@ -12,7 +12,7 @@ use Rattle.writing.proofs.LayLaws.{length-laid}
 use Rattle.unit.specs.Listed.{leastListed}
 use Rattle.unit.specs.State.{subsequences}
 use Rattle.unit.specs.declared.State.{State}
-use Rattle.part.specs.Part.{partLength}
+use Rattle.segment.specs.Segment.{segmentLength}
 use Rattle.record.specs.Record.{after, listedBytes}
 use Rattle.record.proofs.BytesLaws.{length-listed}
 use Rattle.record.proofs.RoomLaws.{no-room, room}
@@ -31,7 +31,7 @@ eight s =
     sym (length-map (s .args .moved .index) (λ v. v))
     ∙ good-length (eInt w32) subsequences (map (λ v. v) (s .args .moved .index)) _ (s .good .1 .1 .1 .0 .1 .1 .1 .0)
 
-long : (s : tie.Start) → length (bytes s) ≡ leastListed + partLength (s .args .p .first) + partLength (s .args .p .second)
+long : (s : tie.Start) → length (bytes s) ≡ leastListed + segmentLength (s .args .p .first) + segmentLength (s .args .p .second)
 long s = omega (arith, eight s, length-listed _ _ _ (s .args .state .number) (next s) (s .args .p) (s .pre .0))
 
 bytes-requires : tie.Need-bytes-requires

@@ -1,8 +1,8 @@
 -- `ecigar::check::check_edits` meets its contract. The loop's invariant: the check of the edits that are left, from here, comes to what the whole comes to. Assumes nothing.
 use native.Mathlib.Omega.{arith}
 use mathlib.Core.Path.{refl, sym, _∙_, _≡_}
-use Rattle.ecigar.proofs.CheckLaws.{ends-room, checkedFrom, check-start, check-short, check-out, check-on, check-end, Within, within-on}
-use Rattle.block.proofs.EditLaws.{accepted}
+use Rattle.ecigar.proofs.CheckLaws.{ends-room, checkedFrom, check-start, check-short, check-out, check-on, check-end, TallyWithin, within-on}
+use Rattle.edits.proofs.EditLaws.{accepted}
 use mathlib.Core.Logic.{inl}
 use Rattle.frame.specs.Hex.{unhex}
 use Rattle.ecigar.specs.Check.{editsChecked}
@@ -11,7 +11,7 @@ use Rattle.ecigar.proofs.check.check_edits.Tie as tie
 
 abbrev Inv-loop : tie.InvT-loop
 Inv-loop line class letters place count mapped step symbols t₀ at₀ left₀ t at left =
-    Within mapped count left t × (checkedFrom class letters (unhex line) mapped left at t ≡ editsChecked class letters (unhex line) place count mapped)
+    TallyWithin mapped count left t × (checkedFrom class letters (unhex line) mapped left at t ≡ editsChecked class letters (unhex line) place count mapped)
 
 abbrev μ-loop : tie.MeasureT-loop
 μ-loop line class letters place count mapped step symbols t₀ at₀ left₀ t at left = left

@@ -2,7 +2,7 @@
 use borrow.Author.Needs.{needs}
 use lib.ListN.{length-append}
 use Rattle.ecigar.proofs.WalkLaws.{ending-both}
-use Rattle.ecigar.specs.Tally.{finished}
+use Rattle.ecigar.specs.Tally.{afterLast}
 use Rattle.ecigar.proofs.check.finish.Statement.{statement}
 use Rattle.ecigar.proofs.check.finish.Tie as tie
 
@@ -25,7 +25,7 @@ add-t7 : tie.Need-add-t7
 add-t7 c = search needs
 
 returns : tie.Need-returns
-unfolding finished
+unfolding afterLast
 returns c = simp (ending-both, length-append, c .before .before .before .closed-len .ensures .0, c .before .before .matches-len .ensures .0)
 
 pub finish-spec : {M : Type 1} → statement M

@@ -20,14 +20,14 @@ cast-put-clip-2 c = search needs
 put-clip-requires : tie.Need-put-clip-requires
 put-clip-requires c κs =
     let s = c .before .before .before .before .before .before .before in
-    omega (arith, s .pre .1 .1, length-text (s .args .class) (s .args .alphabet) (unhex (s .args .line .now)) (s .args .segment))
+    omega (arith, s .pre .1 .1, length-text (s .args .class) (s .args .alphabet) (unhex (s .args .line .now)) (s .args .block))
 
 write-edits-requires : tie.Need-write-edits-requires
 write-edits-requires c κs =
     let s = c .before .before .before .before .before .before .before .before .before .before .before in
     let m = c .before .before .before .before .before .before .before .mapped-length .ensures in
     let p = c .before .before .before .put-clip .ensures in
-    let n = length-text (s .args .class) (s .args .alphabet) (unhex (s .args .line .now)) (s .args .segment) in
+    let n = length-text (s .args .class) (s .args .alphabet) (unhex (s .args .line .now)) (s .args .block) in
     (s .pre .0, (rw m (s .pre .1 .0), rw m (omega (arith, s .pre .1 .1, n, p .to, length-laid p))))
 
 cast-put-clip-3 : tie.Need-cast-put-clip-3
@@ -41,7 +41,7 @@ put-clip-requires-2 c κs =
     let s = c .before .before .before .before .before .before .before .before .before .before .before .before .before .before .before .before .before in
     let p = c .before .before .before .before .before .before .before .before .before .put-clip .ensures in
     let e = rw (c .before .before .before .before .before .before .before .before .before .before .before .before .before .mapped-length .ensures) at (c .before .before .before .before .before .write-edits .ensures) in
-    let n = length-text (s .args .class) (s .args .alphabet) (unhex (s .args .line .now)) (s .args .segment) in
+    let n = length-text (s .args .class) (s .args .alphabet) (unhex (s .args .line .now)) (s .args .block) in
     omega (arith, s .pre .1 .1, n, p .to, length-laid p, e .to, length-laid e)
 
 same-length : tie.Need-same-length

@@ -3,11 +3,11 @@ use native.Mathlib.Omega.{arith}
 use mathlib.Core.Path.{_∙_}
 use Rattle.ecigar.proofs.WalkLaws.{past-next, past-run}
 use Rattle.ecigar.proofs.TextLaws.{ecigar-on, room-on, ecigar-end, Writing}
-use Rattle.block.proofs.EditLaws.{framed-on, accepted-on, sound-on}
+use Rattle.edits.proofs.EditLaws.{framed-on, accepted-on, sound-on}
 use Rattle.writing.proofs.LayLaws.{rest-start, rest-put, rest-room-end, rest-end}
 use Rattle.frame.proofs.HexLaws.{length-unhex}
 use Rattle.frame.specs.Hex.{unhex}
-use Rattle.block.specs.Edits.{editsAt}
+use Rattle.edits.specs.Edits.{editsAt}
 use Rattle.ecigar.specs.Ecigar.{ecigarOf}
 use Rattle.ecigar.proofs.text.write_edits.Statement.{statement}
 use Rattle.ecigar.proofs.text.write_edits.Tie as tie

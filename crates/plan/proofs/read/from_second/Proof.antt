@@ -1,6 +1,6 @@
 -- `plan::read::from_second` meets its contract: what the segment was read as picks the case. Assumes nothing.
 use Rattle.frame.proofs.StepLaws.{steps}
-use Rattle.plan.proofs.Steps.{part-read, part-refused}
+use Rattle.plan.proofs.Steps.{segment-read, segment-refused}
 use Rattle.plan.specs.Plan.{fromSecond}
 use borrow.Author.Needs.{needs}
 use Rattle.plan.proofs.read.from_second.Statement.{statement}
@@ -13,8 +13,8 @@ returns : tie.Need-returns
 unfolding fromSecond
 returns c = search steps
 
-second-part-requires : tie.Need-second-part-requires
-second-part-requires c κs = search needs
+second-segment-requires : tie.Need-second-segment-requires
+second-segment-requires c κs = search needs
 
 enum-known-n : tie.Need-enum-known-n
 enum-known-n c = search needs
@@ -27,11 +27,11 @@ finish-requires-2 c κs = search needs
 
 returns-2 : tie.Need-returns-2
 unfolding fromSecond
-returns-2 c = search (steps, part-refused)
+returns-2 c = search (steps, segment-refused)
 
 returns-3 : tie.Need-returns-3
 unfolding fromSecond
-returns-3 c = search (steps, part-read)
+returns-3 c = search (steps, segment-read)
 
 pub from-second-spec : {M : Type 1} → statement M
 from-second-spec =
@@ -39,7 +39,7 @@ from-second-spec =
     (tie.spec
     finish-requires
     returns
-    second-part-requires
+    second-segment-requires
     enum-known-n
     enum-known-second
     finish-requires-2

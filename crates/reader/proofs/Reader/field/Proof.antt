@@ -51,7 +51,7 @@ use Rattle.frame.specs.Field.{fieldAt}
 use Rattle.frame.specs.declared.field.Field.{Field}
 use Rattle.frame.proofs.field.Field as F
 use Rattle.frame.proofs.field.Field.Laws as F′
-use Rattle.reader.specs.Reading.{bytesOf, behind}
+use Rattle.reader.specs.Reading.{widthBytes, behind}
 use Rattle.reader.specs.declared.Reader.{Reader}
 use Rattle.reader.specs.declared.Width.{Width}
 use Rattle.reader.proofs.Reader as T
@@ -108,7 +108,7 @@ module _ {M : Type 1} (𝓤 : URA M) (H : Heap 𝓤) (A : Atoms 𝓤) (W : Given
   mach m = T′.lowered (moved m)
 
   abbrev found : Field
-  found = fieldAt (bytesOf w) (unhex (now (h .0))) (h .1)
+  found = fieldAt (widthBytes w) (unhex (now (h .0))) (h .1)
 
   abbrev x : RefT Reader × (Width × Unit {0})
   x = (record { ptr = (b, o); name = γ; now = h }, (w, tt))

@@ -47,8 +47,8 @@ use Rattle.frame.specs.Field.{fieldAt}
 use Rattle.frame.specs.declared.field.Field.{Field}
 use Rattle.frame.proofs.field.Field as F
 use Rattle.frame.proofs.field.Field.Laws as F′
-use Rattle.reader.specs.Reading.{bytesOf, atFront, further}
-use Rattle.reader.specs.Head.{headOf}
+use Rattle.reader.specs.Reading.{widthBytes, atFront, further}
+use Rattle.reader.specs.Head.{recordHead}
 use Rattle.reader.specs.declared.Reader.{Reader}
 use Rattle.reader.specs.declared.Width.{Width}
 use Rattle.reader.specs.declared.Width.the-variants.{U8, U16, U32}
@@ -121,7 +121,7 @@ module _ {M : Type 1} (𝓤 : URA M) (H : Heap 𝓤) (A : Atoms 𝓤) (W : Given
 
   -- the field that a reader finds
   abbrev found : Reader → Width → Field
-  found r w = fieldAt (bytesOf w) (unhex (now (r .0))) (r .1)
+  found r w = fieldAt (widthBytes w) (unhex (now (r .0))) (r .1)
 
   abbrev Post : Val → SProp 𝓤
   Post = walkOf 𝓤 H A read.ended stayed (read.clauses 𝓤 H A at-mem run) .post (((κ, tt), (q, tt), tt, (s, tt), (v ∷ [], tt)), tt)
@@ -186,11 +186,11 @@ module _ {M : Type 1} (𝓤 : URA M) (H : Heap 𝓤) (A : Atoms 𝓤) (W : Given
     is-both : Is F.the-row f (u ∷ []) → Is F.the-row g (u′ ∷ []) → Is E.the-row both (mach ∷ [])
     is-both is is′ = ((u ∷ [], (u′ ∷ [], tt)), (refl, (is, (is′, tt))))
 
-    is-head : f ≡ found r₀ U8 → g ≡ found (further r₀ f) U32 → both ≡ headOf (unhex (now s))
-    unfolding headOf
+    is-head : f ≡ found r₀ U8 → g ≡ found (further r₀ f) U32 → both ≡ recordHead (unhex (now s))
+    unfolding recordHead
     is-head e e′ = λ i. record { kind = e i; pos = (e′ ∙ ap (λ (x : Field). found (further r₀ x) U32) e ∙ pos-behind (unhex (now s))) i }
 
-    exits : Is E.the-row both (mach ∷ []) → both ≡ headOf (unhex (now s)) → ent 𝓤 (⋆ 𝓤 H A (‵ (flft κ q) ∷ ‵ Own ∷ [])) (Post mach)
+    exits : Is E.the-row both (mach ∷ []) → both ≡ recordHead (unhex (now s)) → ent 𝓤 (⋆ 𝓤 H A (‵ (flft κ q) ∷ ‵ Own ∷ [])) (Post mach)
     exits is e =
         qed W (‵ (flft κ q) ∷ ‵ Own ∷ []) ∵
         suffices ! _ (ends-at 𝓤 H A read.ended stayed (read.clauses 𝓤 H A at-mem run) W (((κ, tt), (q, tt), tt, (s, tt), (v ∷ [], tt)), tt) mach both (tt, tt) (tt, tt)) $ says ! e $

@@ -1,4 +1,4 @@
--- `record::write::write` meets its contract: the head, the link and the first part one after the other, the second part into the rest of the line. Assumes nothing.
+-- `record::write::write` meets its contract: the head, the link and the first segment one after the other, the second part into the rest of the line. Assumes nothing.
 use Prim.Native.Nat.{ℕ, _+_, _*_, _≤_}
 use mathlib.Core.List.{List, _++_}
 use native.Mathlib.Nat.{zero-add}
@@ -7,20 +7,20 @@ use denote.Ref.{now}
 use lib.ListN.{length, length-append}
 use Rattle.frame.specs.Hex.{unhex}
 use Rattle.writing.proofs.LayLaws.{laid-then, laid-rest, length-laid, room-next}
-use Rattle.unit.specs.Listed.{headOf}
-use Rattle.part.specs.Part.{partBytes}
-use Rattle.part.specs.declared.Part.{Part}
+use Rattle.unit.specs.Listed.{listedHead}
+use Rattle.segment.specs.Segment.{segmentBytes}
+use Rattle.segment.specs.declared.Segment.{Segment}
 use Rattle.record.specs.Record.{linkBytes, listedBytes}
 use borrow.Author.Needs.{needs}
 use Rattle.record.proofs.write.write.Statement.{statement}
 use Rattle.record.proofs.write.write.Tie as tie
 
-abbrev bytes : tie.Start → Part → List ℕ
-bytes s = partBytes (s .args .unit) (now (s .args .reference)) (unhex (now (s .args .line)))
+abbrev bytes : tie.Start → Segment → List ℕ
+bytes s = segmentBytes (s .args .unit) (now (s .args .reference)) (unhex (now (s .args .line)))
 
 -- room for the four pieces
 room : (s : tie.Start)
-    → 0 + 2 * length (headOf (s .args .number) (s .args .next) ++ linkBytes (s .args .unit .sequence) (s .args .p .pos) (s .args .p .link) ++ bytes s (s .args .p .first) ++ bytes s (s .args .p .second)) ≤ length (now (s .args .out))
+    → 0 + 2 * length (listedHead (s .args .number) (s .args .next) ++ linkBytes (s .args .unit .sequence) (s .args .p .pos) (s .args .p .link) ++ bytes s (s .args .p .first) ++ bytes s (s .args .p .second)) ≤ length (now (s .args .out))
 unfolding listedBytes
 room s = rw zero-add (s .pre .1)
 

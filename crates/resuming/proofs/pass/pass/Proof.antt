@@ -1,15 +1,15 @@
--- `resuming::pass::pass` meets its contract. The loop's invariant, `Turn`: what is left, from here, comes to the answer of the whole piece. Assumes nothing.
+-- `resuming::pass::pass` meets its contract. The loop's invariant, `PassTurn`: what is left, from here, comes to the answer of the whole piece. Assumes nothing.
 use Prim.Native.Nat.{_-_}
 use native.Mathlib.Omega.{arith}
 use mathlib.Core.Path.{sym}
 use lib.ListN.{length}
 use Rattle.resuming.specs.Pass.{passOver}
-use Rattle.resuming.proofs.PassLaws.{Turn, turn-start, pass-none, pass-end, pass-last, pass-line, pass-other}
+use Rattle.resuming.proofs.PassLaws.{PassTurn, turn-start, pass-none, pass-end, pass-last, pass-line, pass-other}
 use Rattle.resuming.proofs.pass.pass.Statement.{statement}
 use Rattle.resuming.proofs.pass.pass.Tie as tie
 
 abbrev Inv-loop : tie.InvT-loop
-Inv-loop piece want left₀ i₀ left i = Turn piece (passOver want piece) i left
+Inv-loop piece want left₀ i₀ left i = PassTurn piece (passOver want piece) i left
 
 abbrev μ-loop : tie.MeasureT-loop
 μ-loop piece want left₀ i₀ left i = length piece - i

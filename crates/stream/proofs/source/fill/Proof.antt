@@ -6,7 +6,7 @@ use borrow.Author.Needs.{needs}
 use borrow.Rule.Slice.PartMut.{putMid}
 use lib.ListN.{length}
 use Rattle.frame.proofs.HexLaws.{false-true}
-use Rattle.stream.proofs.SourceLaws.{Filling, filling-none, filling-read, Turn, filling-turn, filled}
+use Rattle.stream.proofs.SourceLaws.{Filling, filling-none, filling-read, LineTurn, filling-turn, filled}
 use Rattle.stream.proofs.source.fill.Statement.{statement}
 use Rattle.stream.proofs.source.fill.Tie as tie
 
@@ -25,7 +25,7 @@ filling c = filling-read (c .before .before .before .before .before .loop .inv) 
 
 -- where it brought bytes
 turned : (c : tie.After-known-told Inv-loop μ-loop)
-    → Turn (c .before .before .before .before .before .before .before .before .before .before .before .args .buf .now) (c .before .before .before .before .before .before .before .before .before .before .before .args .s .end) (c .before .before .before .before .before .before .before .before .loop .buf) (c .before .before .before .before .before .before .before .before .loop .end)
+    → LineTurn (c .before .before .before .before .before .before .before .before .before .before .before .args .buf .now) (c .before .before .before .before .before .before .before .before .before .before .before .args .s .end) (c .before .before .before .before .before .before .before .before .loop .buf) (c .before .before .before .before .before .before .before .before .loop .end)
     (c .before .before .before .before .before .read-some .last .1 .0) (c .before .got .given .0 .0)
 turned c = filling-turn (c .before .before .before .before .before .before .before .before .loop .inv) (c .before .before .before .before .before .read-some .last .1 .0) (c .before .before .before .before .before .read-some .kept .1 .0) (rw (c .before .got .given .1) at (c .before .before .before .before .before .read-some .ensures))
 

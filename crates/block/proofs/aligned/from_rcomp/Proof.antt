@@ -1,0 +1,39 @@
+-- `block::aligned::from_rcomp` meets its contract: each step of the definition follows from what was read. Assumes nothing.
+use mathlib.Core.Path.{refl}
+use Rattle.frame.proofs.StepLaws.{when, unless, same, differ}
+use Rattle.block.proofs.Steps.{accepted, rejected, clipped, unclipped}
+use Rattle.block.specs.Aligned.{fromRcomp}
+use borrow.Author.Needs.{needs}
+use Rattle.block.proofs.aligned.from_rcomp.Statement.{statement}
+use Rattle.block.proofs.aligned.from_rcomp.Tie as tie
+
+read-rcomp-requires : tie.Need-read-rcomp-requires
+read-rcomp-requires c κs = search needs
+
+enum-known-n : tie.Need-enum-known-n
+enum-known-n c = search needs
+
+enum-known-rcomp : tie.Need-enum-known-rcomp
+enum-known-rcomp c = search needs
+
+from-clips-requires : tie.Need-from-clips-requires
+from-clips-requires c κs = search needs
+
+returns : tie.Need-returns
+unfolding fromRcomp
+returns c = search (when, unless, same, differ, accepted, rejected, clipped, unclipped, refl)
+
+returns-2 : tie.Need-returns-2
+unfolding fromRcomp
+returns-2 c = search (when, unless, same, differ, accepted, rejected, clipped, unclipped, refl)
+
+pub from-rcomp-spec : {M : Type 1} → statement M
+from-rcomp-spec =
+    tie.close
+    (tie.spec
+    read-rcomp-requires
+    enum-known-n
+    enum-known-rcomp
+    from-clips-requires
+    returns
+    returns-2)

@@ -1,0 +1,67 @@
+-- `block::symbols::read_symbols` meets its contract. The loop's invariant: to check what is left gives what checking the whole gives. Assumes nothing.
+use mathlib.Core.Path.{_≡_, refl, sym, _∙_}
+use Prim.Native.Nat.{_≤_, _-_}
+use native.Mathlib.Omega.{arith}
+use Rattle.frame.specs.Hex.{unhex}
+use Rattle.frame.proofs.HexLaws.{length-unhex}
+use Rattle.block.specs.Symbols.{symbolsFrom}
+use Rattle.block.proofs.SymbolLaws.{symbols-short, symbols-out, symbols-on, symbols-end}
+use Rattle.block.proofs.symbols.read_symbols.Statement.{statement}
+use Rattle.block.proofs.symbols.read_symbols.Tie as tie
+
+abbrev Inv-loop : tie.InvT-loop
+Inv-loop line letters count size bytes at₀ left₀ at left = (left ≤ count) × (symbolsFrom letters (unhex line) count left at ≡ symbolsFrom letters (unhex line) count count at₀)
+
+abbrev μ-loop : tie.MeasureT-loop
+μ-loop line letters count size bytes at₀ left₀ at left = left
+
+size-requires : tie.Need-size-requires Inv-loop μ-loop
+size-requires c κs = tt
+
+loop-holds : tie.Need-loop-holds Inv-loop μ-loop
+loop-holds c = (omega arith, refl)
+
+returns : tie.Need-returns Inv-loop μ-loop
+returns c = sym (symbols-short _ _ _ _ _ (c .before .loop-test .taken) (rw length-unhex (c .if1 .taken))) ∙ c .before .before .loop .inv .1
+
+byte-at-requires : tie.Need-byte-at-requires Inv-loop μ-loop
+byte-at-requires c κs = tt
+
+wide-requires : tie.Need-wide-requires Inv-loop μ-loop
+wide-requires c κs = tt
+
+returns-2 : tie.Need-returns-2 Inv-loop μ-loop
+returns-2 c = sym (symbols-out _ _ _ _ _ (c .before .before .before .before .loop-test .taken) (rw length-unhex (c .before .before .before .if1 .left)) (rw (← c .before .before .before .before .before .before .size .ensures, ← c .before .before .byte-at .ensures, ← c .before .wide .ensures) (c .if2 .taken))) ∙ c .before .before .before .before .before .loop .inv .1
+
+add-at : tie.Need-add-at Inv-loop μ-loop
+add-at c = omega arith
+
+sub-left : tie.Need-sub-left Inv-loop μ-loop
+sub-left c = omega arith
+
+loop-less : tie.Need-loop-less Inv-loop μ-loop
+loop-less c = omega arith
+
+loop-again : tie.Need-loop-again Inv-loop μ-loop
+loop-again c = (omega arith, sym (symbols-on _ _ _ _ _ (c .before .before .before .before .loop-test .taken) (rw length-unhex (c .before .before .before .if1 .left)) (rw (← c .before .before .before .before .before .before .size .ensures, ← c .before .before .byte-at .ensures, ← c .before .wide .ensures) (c .if2 .left))) ∙ c .before .before .before .before .before .loop .inv .1)
+
+returns-3 : tie.Need-returns-3 Inv-loop μ-loop
+returns-3 c = sym (symbols-end _ _ _ _ _ (c .loop-test .left)) ∙ c .before .loop .inv .1
+
+pub read-symbols-spec : {M : Type 1} → statement M
+read-symbols-spec =
+    tie.close
+    (tie.spec
+    Inv-loop
+    μ-loop
+    size-requires
+    loop-holds
+    returns
+    byte-at-requires
+    wide-requires
+    returns-2
+    add-at
+    sub-left
+    loop-less
+    loop-again
+    returns-3)

@@ -1,0 +1,87 @@
+-- An aligned block (document 01, Lines: blocks): its fields left to right, each refused when it is complete.
+--
+-- field, in order                                      read by                               refused by (2 wherever the frame ends within it)
+-- read length u16                                      alignedAt, Checked.lengthAt           8
+-- rcomp                                                fromRcomp, Checked.rcompAt            11
+-- I, HM: left soft, left hard, right soft, right hard  fromClips, Clips.clipsAt              9, once all four are read
+-- I, HM: soft-clipped bases, left then right           fromSoft, Symbols.symbolsAt           10
+-- all but P: edit count u16                            fromEdits, Checked.countAt            11
+-- the edits                                            tallied, ecigar Check.editsRefusal    11, 10, 12, edit by edit
+-- then, in Segment.placed: 13 (Place), 10 of the reference (bases)
+-- Assumes nothing.
+use Prim.Native.Nat.{ℕ, _+_, _*_}
+use mathlib.Core.Bool.{cond}
+use mathlib.Core.List.{List}
+use lib.Dec.{ltb, eqb}
+use Rattle.refusal.specs.Numbers.{fine}
+use Rattle.unit.specs.Unit.{classP, classI}
+use Rattle.edits.specs.declared.Clips.{Clips}
+use Rattle.edits.specs.declared.Block.{Block}
+use Rattle.edits.specs.Lengths.{noClips, softBases, mappedLength}
+use Rattle.edits.specs.Edits.{widthOf}
+use Rattle.ecigar.specs.Check.{checkOf, editsNumber}
+use Rattle.ecigar.specs.Ecigar.{clipsLength}
+use Rattle.ecigar.specs.declared.check.EditsChecked.the-variants as edits
+use Rattle.ecigar.specs.declared.check.EditsChecked.{EditsChecked}
+use Rattle.block.specs.Checked.{lengthAt, rcompAt, countAt, afterChecked}
+use Rattle.block.specs.Clips.{clipsAt, clippedNumber}
+use Rattle.block.specs.Symbols.{symbolRun}
+use Rattle.block.specs.declared.clips.Clipped.{Clipped}
+use Rattle.block.specs.declared.clips.Clipped.the-variants as clips
+use Rattle.block.specs.declared.aligned.AlignedRead.{AlignedRead}
+use Rattle.block.specs.declared.aligned.AlignedRead.the-variants.{Whole, Refused}
+
+-- document 01's number of an answer
+abbrev pub alignedNumber : AlignedRead → ℕ
+alignedNumber (Whole a) = fine
+alignedNumber (Refused n) = n
+
+abbrev pub blockOf : (length rcomp : ℕ) → Clips → (softAt edits editsAt : ℕ) → Block
+blockOf length rcomp clips softAt edits editsAt =
+    record { length = length; rcomp = rcomp; clips = clips; «soft_at» = softAt; edits = edits; «edits_at» = editsAt }
+
+-- the place behind a block: its edits stand last
+abbrev pub blockEnd : (class : ℕ) → Block → ℕ
+blockEnd class s = s .«edits_at» + s .edits * widthOf class
+
+-- what the edits come to: positions taken, and the E-CIGAR's length with its clips
+abbrev pub afterEdits : (class : ℕ) → Block → EditsChecked → AlignedRead
+afterEdits class s (edits.Refused n) = Refused (editsNumber (edits.Refused n))
+afterEdits class s (edits.Fine taken text) =
+    Whole record { block = s; taken = taken; text = text + clipsLength (s .clips); next = record { at = blockEnd class s } }
+
+-- the edits, one by one
+unfoldable pub editsTallied : (class alphabet : ℕ) (frame : List ℕ) → Block → AlignedRead
+editsTallied class alphabet frame s =
+    afterEdits class s (checkOf class alphabet frame (s .«edits_at») (s .edits) (mappedLength (s .length) (s .clips)))
+
+-- in all but P an edit count and the edits
+unfoldable pub fromEdits : (class alphabet : ℕ) (frame : List ℕ) (length rcomp : ℕ) → Clips → (softAt at : ℕ) → AlignedRead
+fromEdits class alphabet frame length rcomp c softAt at =
+    cond (eqb class classP) (editsTallied class alphabet frame (blockOf length rcomp c softAt 0 at))
+    (afterChecked Refused (countAt frame at) (λ count next. editsTallied class alphabet frame (blockOf length rcomp c softAt count (next .at))))
+
+-- the soft-clipped bases, left then right, one index a byte
+unfoldable pub fromSoft : (class alphabet : ℕ) (frame : List ℕ) (length rcomp : ℕ) → Clips → (at : ℕ) → AlignedRead
+fromSoft class alphabet frame length rcomp c at =
+    afterChecked Refused (symbolRun alphabet frame (softBases c) at) (λ count next. fromEdits class alphabet frame length rcomp c at (next .at))
+
+abbrev pub afterClips : (class alphabet : ℕ) (frame : List ℕ) (length rcomp : ℕ) → Clipped → AlignedRead
+afterClips class alphabet frame length rcomp (clips.Refused n) = Refused (clippedNumber (clips.Refused n))
+afterClips class alphabet frame length rcomp (clips.Whole c next) = fromSoft class alphabet frame length rcomp c (next .at)
+
+-- in I and HM the clips and the soft-clipped bases
+unfoldable pub fromClips : (class alphabet : ℕ) (frame : List ℕ) (length rcomp at : ℕ) → AlignedRead
+fromClips class alphabet frame length rcomp at =
+    cond (ltb class classI) (fromEdits class alphabet frame length rcomp noClips at at)
+    (afterClips class alphabet frame length rcomp (clipsAt frame length at))
+
+-- rcomp
+unfoldable pub fromRcomp : (class alphabet : ℕ) (frame : List ℕ) (length at : ℕ) → AlignedRead
+fromRcomp class alphabet frame length at =
+    afterChecked Refused (rcompAt frame at) (λ rcomp next. fromClips class alphabet frame length rcomp (next .at))
+
+-- read length, rcomp, then by the class
+unfoldable pub alignedAt : (class alphabet : ℕ) (frame : List ℕ) (at : ℕ) → AlignedRead
+alignedAt class alphabet frame at =
+    afterChecked Refused (lengthAt frame at) (λ length next. fromRcomp class alphabet frame length (next .at))

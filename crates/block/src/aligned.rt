@@ -1,0 +1,161 @@
+// An aligned block: length, rcomp, clips, soft-clipped bases, edits. Its place in the unit and the reference under it are looked at in part.rt.
+use crate::checked::CheckedField;
+use crate::checked::read_count;
+use crate::checked::read_length;
+use crate::checked::read_rcomp;
+use crate::clips::Clipped;
+use crate::clips::read_clips;
+use crate::symbols::read_symbols;
+use edits::Block;
+use edits::Clips;
+use edits::mapped_length;
+use frame::field::Cursor;
+use unit::Unit;
+ghost use mathlib.Core.Path.{_≡_};
+ghost use Rattle.frame.specs.Hex.{unhex};
+ghost use Rattle.block.specs.Aligned.{alignedAt, fromRcomp, fromClips, fromSoft, fromEdits, editsTallied};
+
+// A segment that its block gives, the reference positions that it takes, the length of its E-CIGAR, and the place behind the block.
+pub struct AlignedBlock {
+    pub block: Block,
+    pub taken: u32,
+    pub text: u32,
+    pub next: Cursor,
+}
+
+pub enum AlignedRead {
+    Whole(AlignedBlock),
+    Refused(u32),
+}
+
+// The fields of an aligned block, left to right.
+pub fn read_block(line: &[u8], class: u32, alphabet: u32, c: Cursor) -> AlignedRead
+    ensures { λ r. ⌜ r ≡ alignedAt class alphabet (unhex (now (line .entry))) (c .at) ⌝ }
+{
+    match read_length(line, c) {
+        CheckedField::Refused(n) => AlignedRead::Refused(n),
+        CheckedField::Value(length, next) => from_rcomp(line, class, alphabet, length, next),
+    }
+}
+
+fn from_rcomp(line: &[u8], class: u32, alphabet: u32, length: u32, c: Cursor) -> AlignedRead
+    ensures { λ r. ⌜ r ≡ fromRcomp class alphabet (unhex (now (line .entry))) length (c .at) ⌝ }
+{
+    match read_rcomp(line, c) {
+        CheckedField::Refused(n) => AlignedRead::Refused(n),
+        CheckedField::Value(rcomp, next) => from_clips(line, class, alphabet, length, rcomp, next),
+    }
+}
+
+// Only classes I and HM have clips.
+fn from_clips(
+    line: &[u8],
+    class: u32,
+    alphabet: u32,
+    length: u32,
+    rcomp: u32,
+    c: Cursor,
+) -> AlignedRead
+    ensures { λ r. ⌜ r ≡ fromClips class alphabet (unhex (now (line .entry))) length rcomp (c .at) ⌝ }
+{
+    let at = c.at;
+    if class < Unit::I {
+        return from_edits(line, class, alphabet, length, rcomp, Clips::none(), at, c);
+    }
+    match read_clips(line, length, c) {
+        Clipped::Refused(n) => AlignedRead::Refused(n),
+        Clipped::Whole(clips, next) => from_soft(line, class, alphabet, length, rcomp, clips, next),
+    }
+}
+
+fn from_soft(
+    line: &[u8],
+    class: u32,
+    alphabet: u32,
+    length: u32,
+    rcomp: u32,
+    clips: Clips,
+    c: Cursor,
+) -> AlignedRead
+    ensures { λ r. ⌜ r ≡ fromSoft class alphabet (unhex (now (line .entry))) length rcomp clips (c .at) ⌝ }
+{
+    let at = c.at;
+    match read_symbols(line, alphabet, clips.soft(), c) {
+        CheckedField::Refused(n) => AlignedRead::Refused(n),
+        CheckedField::Value(_, next) => from_edits(
+            line,
+            class,
+            alphabet,
+            length,
+            rcomp,
+            clips,
+            at,
+            next,
+        ),
+    }
+}
+
+// Class P has no edits.
+fn from_edits(
+    line: &[u8],
+    class: u32,
+    alphabet: u32,
+    length: u32,
+    rcomp: u32,
+    clips: Clips,
+    soft_at: usize,
+    c: Cursor,
+) -> AlignedRead
+    ensures { λ r. ⌜ r ≡ fromEdits class alphabet (unhex (now (line .entry))) length rcomp clips «soft_at» (c .at) ⌝ }
+{
+    let at = c.at;
+    if class == Unit::P {
+        let block = Block {
+            length,
+            rcomp,
+            clips,
+            soft_at,
+            edits: 0,
+            edits_at: at,
+        };
+        return tally(line, class, alphabet, block);
+    }
+    match read_count(line, c) {
+        CheckedField::Refused(n) => AlignedRead::Refused(n),
+        CheckedField::Value(edits, next) => {
+            let block = Block {
+                length,
+                rcomp,
+                clips,
+                soft_at,
+                edits,
+                edits_at: next.at,
+            };
+            tally(line, class, alphabet, block)
+        }
+    }
+}
+
+// The edits, one by one.
+fn tally(line: &[u8], class: u32, alphabet: u32, block: Block) -> AlignedRead
+    ensures { λ r. ⌜ r ≡ editsTallied class alphabet (unhex (now (line .entry))) block ⌝ }
+{
+    let clips = block.clips;
+    let edits_at = block.edits_at;
+    let edits = block.edits;
+    let mapped = mapped_length(block.length, clips);
+    match ecigar::check::check(line, class, alphabet, edits_at, edits, mapped) {
+        ecigar::check::EditsChecked::Refused(n) => AlignedRead::Refused(n),
+        ecigar::check::EditsChecked::Fine { taken, text } => {
+            let whole = AlignedBlock {
+                block,
+                taken,
+                text: text + ecigar::clip::clips_len(clips),
+                next: Cursor {
+                    at: edits_at + edits as usize * edits::edit::width(class),
+                },
+            };
+            AlignedRead::Whole(whole)
+        }
+    }
+}

@@ -1,0 +1,3 @@
+pub mod EditLaws
+pub mod Unique
+pub mod RefusalLaws

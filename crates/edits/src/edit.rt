@@ -1,0 +1,130 @@
+// The edits of an aligned block: read from the frame's digits in place, and refused one by one.
+use frame::field::byte_at;
+use unit::Unit;
+ghost use mathlib.Core.Path.{_≡_};
+ghost use mathlib.Core.Bool.{cond};
+ghost use lib.Dec.{ltb};
+ghost use Prim.Native.Nat.{_<_, _≤_};
+ghost use Rattle.frame.specs.Hex.{unhex};
+ghost use Rattle.edits.specs.Edits.{widthOf, editAt, nextOffset, editRefusal, deletionRefusal};
+
+// One edit, as Table 93 has it: mmOffsets[i], mmTypes[i], and the index of mms[i].
+pub struct Edit {
+    pub offset: u16,
+    pub kind: u8,
+    pub symbol: u8,
+}
+
+impl Edit {
+    pub const SUBSTITUTION: u8 = 0;
+
+    pub const INSERTION: u8 = 1;
+
+    pub const DELETION: u8 = 2;
+
+    // The symbol that a deletion carries.
+    pub const NONE: u8 = 0;
+}
+
+// How many bytes an edit takes in a class.
+pub fn width(class: u32) -> usize
+    ensures { λ r. ⌜ r ≡ widthOf class ⌝ }
+{
+    if class == Unit::N {
+        return 2;
+    }
+    if class == Unit::M {
+        return 3;
+    }
+    4
+}
+
+fn wide(b: u8) -> u16
+    ensures { λ r. ⌜ (r ≡ b) × (r < 256) ⌝ }
+{
+    b as u16
+}
+
+// A place that is inside the frame, or its end: past it every byte reads as 0, so the end stands for every place there.
+fn inside(at: usize, bytes: usize) -> usize
+    ensures { λ r. ⌜ (r ≡ cond (ltb at bytes) at bytes) × (r ≤ bytes) ⌝ }
+{
+    if at < bytes { at } else { bytes }
+}
+
+// The edit that stands at a place of the frame. In class N it has no symbol of its own: the letter is N.
+pub fn edit_at(line: &[u8], class: u32, alphabet: u32, place: usize) -> Edit
+    ensures { λ r. ⌜ r ≡ editAt class alphabet (unhex (now (line .entry))) place ⌝ }
+{
+    let at = inside(place, line.len() / 2);
+    let offset = wide(byte_at(line, at)) * 256 + wide(byte_at(line, at + 1));
+    if class == Unit::N {
+        return Edit {
+            offset,
+            kind: Edit::SUBSTITUTION,
+            symbol: alphabet::index_of_n(alphabet) as u8,
+        };
+    }
+    let third = byte_at(line, at + 2);
+    if class == Unit::M {
+        return Edit {
+            offset,
+            kind: Edit::SUBSTITUTION,
+            symbol: third,
+        };
+    }
+    Edit {
+        offset,
+        kind: third,
+        symbol: byte_at(line, at + 3),
+    }
+}
+
+// The least offset that may follow an edit.
+pub fn next_offset(e: Edit) -> u32
+    ensures { λ r. ⌜ r ≡ nextOffset e ⌝ }
+{
+    if e.kind == Edit::DELETION {
+        return e.offset as u32;
+    }
+    e.offset as u32 + 1
+}
+
+// Refusal 11, 10 or 12 of a complete edit, where the least offset that may stand here is `next`; else 0.
+pub fn refusal_of(e: Edit, next: u32, mapped: u32, symbols: u32) -> u32
+    ensures { λ r. ⌜ r ≡ editRefusal mapped symbols next e ⌝ }
+{
+    let offset = e.offset as u32;
+    if Edit::DELETION < e.kind {
+        return refusal::FIELD_OUT;
+    }
+    if e.kind == Edit::DELETION {
+        return deletion_refusal(e.symbol, offset, next, mapped);
+    }
+    if symbols <= e.symbol as u32 {
+        return refusal::SYMBOL_OUT;
+    }
+    if offset < next {
+        return refusal::OFFSET_OUT;
+    }
+    if mapped <= offset {
+        return refusal::OFFSET_OUT;
+    }
+    refusal::FINE
+}
+
+// The same of a deletion, which brings no symbol and may stand behind the last base.
+fn deletion_refusal(symbol: u8, offset: u32, next: u32, mapped: u32) -> u32
+    ensures { λ r. ⌜ r ≡ deletionRefusal mapped next symbol offset ⌝ }
+{
+    if symbol != Edit::NONE {
+        return refusal::FIELD_OUT;
+    }
+    if offset < next {
+        return refusal::OFFSET_OUT;
+    }
+    if mapped < offset {
+        return refusal::OFFSET_OUT;
+    }
+    refusal::FINE
+}

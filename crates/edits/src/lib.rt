@@ -1,0 +1,63 @@
+// What a block of a record holds: a segment's length, clips and edits, and where they stand in the frame.
+pub mod edit;
+
+ghost use mathlib.Core.Path.{_≡_};
+ghost use Rattle.edits.specs.Lengths.{noClips, softBases, mappedLength};
+
+// The clipped bases on both sides of a segment.
+pub struct Clips {
+    pub left_soft: u16,
+    pub left_hard: u16,
+    pub right_soft: u16,
+    pub right_hard: u16,
+}
+
+impl Clips {
+    // Classes without clips.
+    pub fn none() -> Clips
+        ensures { λ r. ⌜ r ≡ noClips ⌝ }
+    {
+        Clips {
+            left_soft: 0,
+            left_hard: 0,
+            right_soft: 0,
+            right_hard: 0,
+        }
+    }
+
+    // The soft-clipped bases of both sides.
+    pub fn soft(self) -> u32
+        ensures { λ r. ⌜ r ≡ softBases self ⌝ }
+    {
+        self.left_soft as u32 + self.right_soft as u32
+    }
+}
+
+// An aligned segment as its block gives it. The soft-clipped bases and the edits stay in the frame, each at its place.
+pub struct Block {
+    pub length: u32,
+    pub rcomp: u32,
+    pub clips: Clips,
+    pub soft_at: usize,
+    pub edits: u32,
+    pub edits_at: usize,
+}
+
+impl Block {
+    // The longest read.
+    pub const READ: u32 = 1_000;
+
+    // The most edits of a segment.
+    pub const EDITS: u32 = 1_000;
+
+    // The longest E-CIGAR.
+    pub const ECIGAR: u32 = 4_014;
+}
+
+// The read length less both soft clips; 0 where they reach it.
+pub fn mapped_length(length: u32, clips: Clips) -> u32
+    ensures { λ r. ⌜ r ≡ mappedLength length clips ⌝ }
+{
+    let soft = clips.soft();
+    if length <= soft { 0 } else { length - soft }
+}

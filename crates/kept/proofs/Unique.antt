@@ -1,0 +1,22 @@
+-- Each public function's promise admits one outcome: two outcomes that keep it are the same.
+-- Assumes nothing.
+use mathlib.Core.Path.{_≡_}
+use mathlib.Core.List.{List}
+use Prim.Native.Nat.{ℕ}
+use lib.ListN.{length}
+use Rattle.frame.proofs.Unique.{once}
+use Rattle.listing.specs.Lines.{kept}
+use Rattle.kept.specs.Keep.{fresh, keepByte, keepAll}
+use Rattle.kept.specs.declared.keep.Keep.{Keep}
+
+pub new-once : {k k′ : Keep} → k ≡ fresh → k′ ≡ fresh → k ≡ k′
+new-once = once
+
+pub byte-once : (before : Keep) (b : ℕ) {k k′ : Keep} → k ≡ keepByte before b → k′ ≡ keepByte before b → k ≡ k′
+byte-once before b = once
+
+pub over-once : (before : Keep) (piece : List ℕ) {k k′ : Keep} → k ≡ keepAll before piece → k′ ≡ keepAll before piece → k ≡ k′
+over-once before piece = once
+
+pub kept-once : (found : List ℕ) {n n′ : ℕ} → n ≡ length (kept found) → n′ ≡ length (kept found) → n ≡ n′
+kept-once found = once

@@ -1,4 +1,0 @@
-pub mod Part
-pub mod Place
-pub mod Ready
-pub mod Listed

@@ -1,0 +1,32 @@
+-- `segment::read_aligned` meets its contract: what the block was read as picks the case. Assumes nothing.
+use mathlib.Core.Path.{refl}
+use Rattle.segment.proofs.Steps.{blocked, unblocked}
+use Rattle.segment.specs.Segment.{placedAt}
+use borrow.Author.Needs.{needs}
+use Rattle.segment.proofs.read_aligned.Statement.{statement}
+use Rattle.segment.proofs.read_aligned.Tie as tie
+
+read-block-requires : tie.Need-read-block-requires
+read-block-requires c κs = search needs
+
+enum-known-n : tie.Need-enum-known-n
+enum-known-n c = search needs
+
+enum-known-a : tie.Need-enum-known-a
+enum-known-a c = search needs
+
+place-block-requires : tie.Need-place-block-requires
+place-block-requires c κs = search needs
+
+returns : tie.Need-returns
+unfolding placedAt
+returns c = search (blocked, unblocked, refl)
+
+returns-2 : tie.Need-returns-2
+unfolding placedAt
+returns-2 c = search (blocked, unblocked, refl)
+
+pub read-aligned-spec : {M : Type 1} → statement M
+read-aligned-spec =
+    tie.close
+    (tie.spec read-block-requires enum-known-n enum-known-a place-block-requires returns returns-2)

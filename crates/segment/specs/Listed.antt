@@ -1,0 +1,65 @@
+-- The words in which an aligned segment that is listed is compared with the standard: its bases and E-CIGAR as they are listed, and what the tables take of it.
+-- Assumes nothing.
+use Prim.Native.Nat.{ℕ, _+_, _<_}
+use mathlib.Core.Path.{_≡_}
+use mathlib.Core.List.{List}
+use Rattle.unit.specs.declared.Unit.{Unit}
+use Rattle.alphabet.specs.Table35.{sizeOf, letterOf}
+use Rattle.edits.specs.declared.edit.Edit.{Edit}
+use Rattle.edits.specs.Lengths.{mappedLength}
+use Rattle.ecigar.specs.Table90.{Operation}
+use Rattle.ecigar.specs.Table92.{ecigarString}
+use Rattle.ecigar.specs.Ecigar.{blockEdits, blockOperations, ecigarText, offsetsOf, lettersIn, typesOf}
+use Rattle.bases.specs.Bases.{beginning, basesText, lettersAt}
+use Rattle.bases.specs.Alignment.{UnderMatch, OfEdit}
+use Rattle.segment.specs.declared.Placed.{Placed}
+
+-- ---- as it is listed (`alignedBytes`)
+
+abbrev pub listedBases : Unit → List ℕ → List ℕ → Placed → List ℕ
+listedBases u reference frame q = basesText (u .class) (u .alphabet) frame reference (u .first) (q .position) (q .block)
+
+abbrev pub listedEcigar : Unit → List ℕ → Placed → List ℕ
+listedEcigar u frame q = ecigarText (u .class) (u .alphabet) frame (q .block)
+
+-- the rows of Table 90 that the E-CIGAR is written from
+abbrev pub listedOperations : Unit → List ℕ → Placed → List Operation
+listedOperations u frame q = blockOperations (u .class) (u .alphabet) frame (q .block)
+
+-- ---- what its block says
+
+-- its edits
+abbrev pub editsIn : Unit → List ℕ → Placed → List Edit
+editsIn u frame q = blockEdits (u .class) (u .alphabet) frame (q .block)
+
+-- how many of its bases are mapped
+abbrev pub mappedIn : Placed → ℕ
+mappedIn q = mappedLength (q .block .length) (q .block .clips)
+
+-- leftSoftClips and rightSoftClips of Table 92: the letters of its soft-clipped bases
+abbrev pub leftSoftClips : Unit → List ℕ → Placed → List ℕ
+leftSoftClips u frame q = lettersAt (u .alphabet) frame (q .block .«soft_at») (q .block .clips .«left_soft»)
+
+abbrev pub rightSoftClips : Unit → List ℕ → Placed → List ℕ
+rightSoftClips u frame q = lettersAt (u .alphabet) frame (q .block .«soft_at» + q .block .clips .«left_soft») (q .block .clips .«right_soft»)
+
+-- ---- what the standard says
+
+-- ecigarString of Table 92
+abbrev pub table92 : Unit → List ℕ → Placed → List ℕ
+table92 u frame q =
+    ecigarString (u .class) (q .block .length) (q .block .edits)
+    (offsetsOf (editsIn u frame q)) (lettersIn (u .alphabet) (editsIn u frame q)) (typesOf (editsIn u frame q))
+    (leftSoftClips u frame q) (rightSoftClips u frame q) (q .block .clips .«left_hard») (q .block .clips .«right_hard»)
+
+-- mapped base i matches the reference at a position (10.6.1)
+abbrev pub Matches : Unit → List ℕ → Placed → ℕ → ℕ → Type 0
+Matches u frame q i at = UnderMatch (mappedIn q) (beginning (q .position)) (editsIn u frame q) i at
+
+-- mapped base i is brought by an edit, a substitution or an insertion
+abbrev pub Brought : Unit → List ℕ → Placed → ℕ → Edit → Type 0
+Brought u frame q i e = OfEdit (editsIn u frame q) i e
+
+-- a letter of the alphabet (Table 35)
+abbrev pub Letter : ℕ → ℕ → Type 0
+Letter alphabet letter = (symbol : ℕ) × ((symbol < sizeOf alphabet) × (letter ≡ letterOf alphabet symbol))

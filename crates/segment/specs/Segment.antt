@@ -1,0 +1,107 @@
+-- A segment of a record: what is refused of it, and the bytes that list it (document 01, The listing and Order).
+-- Assumes nothing.
+use Prim.Native.Nat.{ℕ, _+_}
+use mathlib.Core.Bool.{cond}
+use mathlib.Core.List.{List, [], _++_}
+use lib.Dec.{eqb}
+use lib.ListN.{length}
+use Rattle.refusal.specs.Numbers.{fine}
+use Rattle.frame.specs.Hex.{be}
+use Rattle.unit.specs.declared.Unit.{Unit}
+use Rattle.edits.specs.declared.Block.{Block}
+use Rattle.edits.specs.Lengths.{mostRead, mostEcigar, mappedLength}
+use Rattle.ecigar.specs.Ecigar.{ecigarText}
+use Rattle.bases.specs.Bases.{referenceRefusal, basesText, lettersAt}
+use Rattle.block.specs.Aligned.{alignedAt, alignedNumber}
+use Rattle.block.specs.Unaligned.{unalignedAt, unalignedNumber}
+use Rattle.segment.specs.Place.{placeRefusal}
+use Rattle.block.specs.declared.aligned.AlignedBlock.{AlignedBlock}
+use Rattle.block.specs.declared.aligned.AlignedRead.{AlignedRead}
+use Rattle.block.specs.declared.aligned.AlignedRead.the-variants as aligned
+use Rattle.block.specs.declared.unaligned.UnalignedBlock.{UnalignedBlock}
+use Rattle.block.specs.declared.unaligned.UnalignedRead.{UnalignedRead}
+use Rattle.block.specs.declared.unaligned.UnalignedRead.the-variants as unaligned
+use Rattle.segment.specs.declared.Placed.{Placed}
+use Rattle.segment.specs.declared.Segment.{Segment}
+use Rattle.segment.specs.declared.Segment.the-variants.{Aligned, Unaligned, Absent}
+use Rattle.segment.specs.declared.SegmentRead.{SegmentRead}
+use Rattle.segment.specs.declared.SegmentRead.the-variants.{Whole, Refused}
+
+-- ---- what is refused
+
+-- document 01's number of an answer
+abbrev pub segmentNumber : SegmentRead → ℕ
+segmentNumber (Whole p next) = fine
+segmentNumber (Refused n) = n
+
+-- refused by a number, unless it is 0
+abbrev pub unlessRefused : (number : ℕ) → SegmentRead → SegmentRead
+unlessRefused number go = cond (eqb number fine) go (Refused number)
+
+-- refusal 10 for the reference, under the matches of a segment
+abbrev pub underMatches : Unit → (reference frame : List ℕ) (position : ℕ) → Block → ℕ
+underMatches u reference frame position s =
+    referenceRefusal (u .class) (u .alphabet) frame reference (u .first) position (mappedLength (s .length) (s .clips)) (s .edits) (s .«edits_at»)
+
+-- what the record has of it
+abbrev pub placedSegment : (position : ℕ) → AlignedBlock → Segment
+placedSegment position a = Aligned record { block = a .block; position = position; text = a .text }
+
+-- after each aligned segment 13, then 10 for the reference
+unfoldable pub placed : Unit → (reference frame : List ℕ) (position : ℕ) → AlignedBlock → SegmentRead
+placed u reference frame position a =
+    unlessRefused (placeRefusal (u .start) (u .end) position (a .taken))
+    (unlessRefused (underMatches u reference frame position (a .block)) (Whole (placedSegment position a) (a .next)))
+
+-- a block's refusal is the segment's
+abbrev pub afterBlock : Unit → (reference frame : List ℕ) (position : ℕ) → AlignedRead → SegmentRead
+afterBlock u reference frame position (aligned.Refused n) = Refused (alignedNumber (aligned.Refused n))
+afterBlock u reference frame position (aligned.Whole a) = placed u reference frame position a
+
+-- an aligned segment of the unit, whose block stands at a place of the frame
+unfoldable pub placedAt : Unit → (reference frame : List ℕ) (position at : ℕ) → SegmentRead
+placedAt u reference frame position at = afterBlock u reference frame position (alignedAt (u .class) (u .alphabet) frame at)
+
+abbrev pub afterPlain : UnalignedRead → SegmentRead
+afterPlain (unaligned.Refused n) = Refused (unalignedNumber (unaligned.Refused n))
+afterPlain (unaligned.Whole s) = Whole (Unaligned s) (s .next)
+
+-- an unaligned segment
+unfoldable pub plainAt : Unit → (frame : List ℕ) (at : ℕ) → SegmentRead
+plainAt u frame at = afterPlain (unalignedAt (u .alphabet) frame at)
+
+-- ---- what lists it
+
+-- position u32, rcomp, read length u16, bases as letters, E-CIGAR length u16, E-CIGAR as ASCII (Table 92's ecigarString: `listed-is-table92`)
+unfoldable pub alignedBytes : Unit → (reference frame : List ℕ) → Placed → List ℕ
+alignedBytes u reference frame p =
+    be 4 (p .position)
+    ++ be 1 (p .block .rcomp)
+    ++ be 2 (p .block .length)
+    ++ basesText (u .class) (u .alphabet) frame reference (u .first) (p .position) (p .block)
+    ++ be 2 (length (ecigarText (u .class) (u .alphabet) frame (p .block)))
+    ++ ecigarText (u .class) (u .alphabet) frame (p .block)
+
+-- an unaligned segment has position 0, rcomp 0 and E-CIGAR length 0
+unfoldable pub unalignedBytes : Unit → (frame : List ℕ) → UnalignedBlock → List ℕ
+unalignedBytes u frame s =
+    be 4 0 ++ be 1 0 ++ be 2 (s .length) ++ lettersAt (u .alphabet) frame (s .at) (s .length) ++ be 2 0
+
+unfoldable pub segmentBytes : Unit → (reference frame : List ℕ) → Segment → List ℕ
+segmentBytes u reference frame (Aligned p) = alignedBytes u reference frame p
+segmentBytes u reference frame (Unaligned s) = unalignedBytes u frame s
+segmentBytes u reference frame Absent = []
+
+-- the bytes of a listed segment besides its bases and E-CIGAR
+abbrev pub fixedBytes : ℕ
+fixedBytes = 9
+
+-- the most bytes that list a segment: the fixed ones, the longest read and the longest E-CIGAR
+abbrev pub mostSegmentBytes : ℕ
+mostSegmentBytes = fixedBytes + mostRead + mostEcigar
+
+-- how many bytes list it: `placed-taken` and `plain-taken` (proofs/SegmentLaws) show that `segmentBytes` has as many
+unfoldable pub segmentLength : Segment → ℕ
+segmentLength (Aligned p) = fixedBytes + p .block .length + p .text
+segmentLength (Unaligned s) = fixedBytes + s .length
+segmentLength Absent = 0
