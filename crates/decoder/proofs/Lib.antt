@@ -7,4 +7,7 @@ pub mod EndingLaws
 pub mod FitLaws
 pub mod ListingLaws
 pub mod TurnLaws
+pub mod Demand1
+pub mod Demand2
+pub mod Demand3
 pub mod Demands

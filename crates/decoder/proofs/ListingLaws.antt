@@ -24,8 +24,8 @@ use Rattle.listing.specs.Files.{good, wrong, pairs}
 use Rattle.listing.specs.Listing.{Front, line05, lastLine, firstOf, restOf, listed, listing, Each, none, one, ListingLine}
 use Rattle.listing.specs.Resuming.{stateAt, edges, ContinuableLine, add, skip}
 use Rattle.listing.specs.Turn.{Turn, go, stop, onTurn, turn, runBy, run}
-use Rattle.listing.proofs.Demand2.{one-call-a-line}
-use Rattle.listing.proofs.Demand3.{one-call-a-line-goes-on}
+use Rattle.listing.proofs.TurnLaws.{run-listing}
+use Rattle.listing.proofs.PlaceLaws.{goes-on}
 use Rattle.decoder.specs.Files.{readReference, readUnit, readPair, countsIn, tableOf}
 use Rattle.decoder.specs.Decoder.{setupOf, frontOf, listingOf, restListed, suppliedBy, Opened, setupIn}
 use Rattle.decoder.specs.Turned.{lentLine, turnOf, lentFor, callsFor}
@@ -182,7 +182,7 @@ module _ {refFile unitFile : List ℕ} (o : Opened refFile unitFile) where
   pub opened-calls : callsFor o (suc (o .unit .records)) freshState (o .lines) ≡ joined (restListed refFile unitFile)
   opened-calls =
       rw (opened-front o)
-      (calls-as (suc (o .unit .records)) freshState (o .lines) (opened-some o) ∙ one-call-a-line (setupIn o) (opened-lawful o))
+      (calls-as (suc (o .unit .records)) freshState (o .lines) (opened-some o) ∙ run-listing (opened-lawful o))
 
   -- behind a kept 04 line
   pub opened-goes-on : (kept-line : List ℕ) → ContinuableLine (o .unit .records) (countsIn (o .rows)) kept-line → (ls : List (List ℕ))
@@ -191,5 +191,5 @@ module _ {refFile unitFile : List ℕ} (o : Opened refFile unitFile) where
       ≡ add (callsFor o (suc (o .unit .records - (bigAt 2 (unhex kept-line) numberPlace + 1))) (stateAt (unhex kept-line)) ls)
   opened-goes-on kept-line w ls e =
       rw (opened-front o)
-      (one-call-a-line-goes-on (setupIn o) (opened-lawful o) kept-line w ls e
+      (goes-on (setupIn o) (opened-lawful o) kept-line w ls e
       ∙ ap add (sym (calls-as _ _ ls (skip-some _ (o .lines) ls (opened-some o) e))))

@@ -29,8 +29,7 @@ use Rattle.listing.specs.Lines.{same}
 use Rattle.listing.specs.Record.{Setup, Accepted, Lawful}
 use Rattle.listing.specs.Listing.{Front, alone, unpaired, ready, line06, onStep, records, onAccepted, stateBehind, firstOf, restOf, LawfulFront, Finished, line05, lastLine}
 use Rattle.listing.specs.Resuming.{lastFrom}
-use Rattle.listing.proofs.ListingLaws.{not-06}
-use Rattle.listing.proofs.Demand2.{done-leaves-no-symbol}
+use Rattle.listing.proofs.ListingLaws.{not-06, listing-finished}
 use Rattle.decoder.specs.Files.{countsIn, tableOf}
 use Rattle.decoder.specs.Decoder.{setupBy, frontOf, Opened, setupIn}
 use Rattle.decoder.specs.Symbols.{symbolsOf, onTaken, symbolsTakenFrom, symbolsTaken, RecordLine, AllTaken}
@@ -256,7 +255,7 @@ module _ {refFile unitFile : List ℕ} (o : Opened refFile unitFile) where
       record {
         records = rw (opened-front o) (all-listed (setupIn o) (o .unit .records) freshState (o .lines) (o .first) count e .0);
         count = rw (opened-front o) (all-listed (setupIn o) (o .unit .records) freshState (o .lines) (o .first) count e .1);
-        symbols = opened-all (done-leaves-no-symbol (setupIn o) opened-lawful count e);
+        symbols = opened-all (listing-finished (setupIn o) opened-lawful count e);
       }
 
 -- ---- the listing of two files

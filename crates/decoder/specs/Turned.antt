@@ -25,7 +25,7 @@ lentLine line = cond (eqb (length line) 0) none (some line)
 
 -- the turn of a unit: it looks at neither the unit line nor the lines behind this one.
 -- Where a record is wanted, the record call refuses a unit, counts or a state that no files have (3, 4, 14). Where none is, they are not looked at:
--- `supply` alone calls `turn`, with the unit and the counts of accepted lines and a state that is fresh, a turn's own or an accepted last line's, none of them past the record count; C has no such call
+-- `rest` alone calls `turn`, with the unit and the counts of accepted lines and a state that is fresh, a turn's own or an accepted last line's, none of them past the record count; C has no such call
 unfoldable pub turnOf : Unit → List ℕ → List ℕ → List ℕ → State → List ℕ → Turn
 turnOf u reference symbols counts state line = turn (setupOf u reference symbols counts [] []) state (lentLine line)
 

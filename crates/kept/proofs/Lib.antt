@@ -1,3 +1,2 @@
 pub mod KeepLaws
-pub mod Demand3
 pub mod Unique

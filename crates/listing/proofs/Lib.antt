@@ -1,5 +1,3 @@
-pub mod Demand2
-pub mod Demand3
 pub mod LinesLaws
 pub mod WordLaws
 pub mod LastLaws

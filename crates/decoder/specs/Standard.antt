@@ -1,0 +1,105 @@
+-- What demand 2 says of a record that is listed: positions, mate, bases and E-CIGAR are those of the standard. Every accepted record call is proved to be such a one (proofs/Demand2).
+-- Assumes nothing.
+use Prim.Native.Nat.{ℕ, _+_, _-_, _<_, _≤_}
+use mathlib.Core.Path.{_≡_}
+use mathlib.Core.Logic.{_⊎_}
+use mathlib.Core.List.{List, _++_}
+use lib.ListN.{length, getD}
+use Rattle.frame.specs.Hex.{unhex, be}
+use Rattle.frame.specs.Field.{bigAt}
+use Rattle.alphabet.specs.Table35.{letterN, letterOf}
+use Rattle.unit.specs.Unit.{classHM, classU, mostSegments}
+use Rattle.unit.specs.declared.Unit.{Unit}
+use Rattle.unit.specs.declared.State.{State}
+use Rattle.pairing.specs.Table60.{mappingPos}
+use Rattle.pairing.specs.Pairing.{pairOf}
+use Rattle.pairing.specs.declared.LinkRead.the-variants.{Linked}
+use Rattle.edits.specs.declared.edit.Edit.{Edit}
+use Rattle.ecigar.specs.Table90.{printAll, movesRead, movesReference, total, AllPositive}
+use Rattle.bases.specs.Bases.{lettersAt}
+use Rattle.block.specs.declared.unaligned.UnalignedBlock.{UnalignedBlock}
+use Rattle.segment.specs.Segment.{segmentBytes}
+use Rattle.segment.specs.Listed.{listedBases, listedEcigar, listedOperations, mappedIn, table92, Matches, Brought, Letter}
+use Rattle.segment.specs.declared.Placed.{Placed}
+use Rattle.segment.specs.declared.Segment.the-variants.{Aligned, Unaligned, Absent}
+use Rattle.plan.specs.Plan.{planOf}
+use Rattle.plan.specs.Said.{AlignedIn}
+use Rattle.plan.specs.declared.read.Plan.{Plan}
+use Rattle.plan.specs.declared.read.Planned.the-variants.{Whole}
+use Rattle.record.specs.Record.{listedBytes, after}
+
+-- ---- an aligned read
+
+pub record StandardRead (u : Unit) (reference frame : List ℕ) (q : Placed) : Type 0 where
+  -- what is listed of it: where it maps, its strand, its length, its bases, and its E-CIGAR
+  pub listed : segmentBytes u reference frame (Aligned q)
+      ≡ be 4 (q .position) ++ be 1 (q .block .rcomp) ++ be 2 (q .block .length) ++ listedBases u reference frame q ++ be 2 (length (listedEcigar u frame q)) ++ listedEcigar u frame q
+  -- it maps to a position of its unit
+  pub begins : (u .start ≤ q .position) × (q .position ≤ u .end)
+  -- and its E-CIGAR reaches no further than the unit's last position
+  pub ends : q .position + total movesReference (listedOperations u frame q) ≤ u .end + 1
+  -- its E-CIGAR is the string that Table 92 makes of the mismatches and clips in its block
+  pub ecigar : listedEcigar u frame q ≡ table92 u frame q
+  -- it is written from rows of Table 90
+  pub operations : listedEcigar u frame q ≡ printAll (listedOperations u frame q)
+  -- none of them says that 0 bases match, are inserted, deleted or clipped
+  pub counts : AllPositive (listedOperations u frame q)
+  -- together they use up every base of the read
+  pub uses-up : total movesRead (listedOperations u frame q) ≡ q .block .length
+  -- as many bases are listed as the read is long
+  pub long : length (listedBases u reference frame q) ≡ q .block .length
+  -- every base that is mapped matches the reference at one position, or is substituted or inserted by an edit
+  pub from : (i : ℕ) → i < mappedIn q → ((at : ℕ) × Matches u frame q i at) ⊎ ((e : Edit) × Brought u frame q i e)
+  -- the position that it matches lies within the unit
+  pub inside : (i at : ℕ) → Matches u frame q i at → (u .start ≤ at) × (at ≤ u .end)
+  -- a base that matches is the reference's base at its position
+  pub matching : (i at : ℕ) → Matches u frame q i at → u .first ≤ at → at < u .first + length reference
+      → getD (listedBases u reference frame q) (q .block .clips .«left_soft» + i) 0 ≡ letterOf (u .alphabet) (getD reference (at - u .first) 0)
+  -- and N where no base of the reference is lent for its position (10.2.2: padded with N)
+  pub padded : (i at : ℕ) → Matches u frame q i at → (u .first ≤ at → at < u .first + length reference → ⊥)
+      → getD (listedBases u reference frame q) (q .block .clips .«left_soft» + i) 0 ≡ letterN
+  -- a base that is substituted or inserted is the letter that the block gives for it
+  pub edited : (i : ℕ) (e : Edit) → Brought u frame q i e
+      → getD (listedBases u reference frame q) (q .block .clips .«left_soft» + i) 0 ≡ letterOf (u .alphabet) (e .symbol)
+  -- the bases that are soft-clipped on the left are the block's
+  pub left-clip : (i : ℕ) → i < q .block .clips .«left_soft» → getD (listedBases u reference frame q) i 0 ≡ letterOf (u .alphabet) (getD frame (q .block .«soft_at» + i) 0)
+  -- and those on the right
+  pub right-clip : (i : ℕ) → i < q .block .clips .«right_soft»
+      → getD (listedBases u reference frame q) (q .block .clips .«left_soft» + mappedIn q + i) 0 ≡ letterOf (u .alphabet) (getD frame (q .block .«soft_at» + q .block .clips .«left_soft» + i) 0)
+  -- every base is a letter of the unit's alphabet
+  pub letters : (i : ℕ) → i < q .block .length → Letter (u .alphabet) (getD (listedBases u reference frame q) i 0)
+
+-- ---- a read that is not aligned
+
+pub record StandardUnaligned (u : Unit) (reference frame : List ℕ) (s : UnalignedBlock) : Type 0 where
+  -- it is listed at position 0, with strand 0 and no E-CIGAR: its length and its bases
+  pub listed : segmentBytes u reference frame (Unaligned s) ≡ be 4 0 ++ be 1 0 ++ be 2 (s .length) ++ lettersAt (u .alphabet) frame (s .at) (s .length) ++ be 2 0
+  -- its bases are the block's
+  pub letters : (i : ℕ) → i < s .length → getD (lettersAt (u .alphabet) frame (s .at) (s .length)) i 0 ≡ letterOf (u .alphabet) (getD frame (s .at + i) 0)
+
+-- ---- a record: which 04 line an accepted call lists for its line, and the state behind it
+
+pub record StandardRecord (u : Unit) (reference symbols counts : List ℕ) (state : State) (line frame : List ℕ) (next : State) : Type 0 where
+  -- what the line says: a link, a position and the segments
+  pub plan : Plan
+  pub said : planOf u reference symbols counts state line .planned ≡ Whole plan
+  -- the 04 line is this record: its number and the indexes behind it, its link, its first and its second segment
+  pub listed : frame ≡ listedBytes u reference (unhex line) (state .number) next plan
+  -- the link is Table 60's, of the pair symbols that stand next at the indexes given
+  pub linked : pairOf u symbols counts state .answer ≡ Linked (plan .link)
+  -- and the state behind it has the next number and the indexes behind those symbols
+  pub moved : next ≡ after state (pairOf u symbols counts state .state)
+  -- in every class but U the first read is aligned, and maps to the position that the line gives
+  pub first-aligned : (u .class ≡ classU → ⊥) → (q : Placed) × (plan .first ≡ Aligned q)
+  pub first-position : (q : Placed) → plan .first ≡ Aligned q → q .position ≡ bigAt 4 (unhex line) 1
+  -- in P, N, M and I so is the second, where the record has two, and maps to the position that Table 60 gives the mate
+  pub second-aligned : mostSegments ≤ plan .link .segments → u .class < classHM → (q : Placed) × (plan .second ≡ Aligned q)
+  pub second-position : (q : Placed) → plan .second ≡ Aligned q → q .position ≡ mappingPos (bigAt 4 (unhex line) 1) (plan .link .mate)
+  -- the first read of class U is not aligned, nor is a second read of U or of HM, the half-mapped pairs
+  pub first-unaligned : u .class ≡ classU → (s : UnalignedBlock) × (plan .first ≡ Unaligned s)
+  pub second-unaligned : mostSegments ≤ plan .link .segments → classHM ≤ u .class → (s : UnalignedBlock) × (plan .second ≡ Unaligned s)
+  -- a record of one read lists no second
+  pub alone : plan .link .segments < mostSegments → plan .second ≡ Absent
+  -- each of its reads is the standard's
+  pub aligned : (q : Placed) → AlignedIn plan q → StandardRead u reference (unhex line) q
+  pub unaligned : (s : UnalignedBlock) → StandardUnaligned u reference (unhex line) s
