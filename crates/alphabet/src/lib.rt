@@ -3,28 +3,11 @@ ghost use mathlib.Core.Path.{_≡_};
 ghost use Rattle.alphabet.specs.Table35.{sizeOf, letterOf, codeOfN};
 ghost use Rattle.alphabet.specs.Digits.{digitsOf};
 
-// Alphabet 0: A C G T N.
-const FIVE: [u8; 5] = [65, 67, 71, 84, 78];
+// Alphabet 0.
+const FIVE: [u8; 5] = *b"ACGTN";
 
-// Alphabet 1: A C G T R Y S W K M B D H V N -.
-const SIXTEEN: [u8; 16] = [
-    65,
-    67,
-    71,
-    84,
-    82,
-    89,
-    83,
-    87,
-    75,
-    77,
-    66,
-    68,
-    72,
-    86,
-    78,
-    45,
-];
+// Alphabet 1.
+const SIXTEEN: [u8; 16] = *b"ACGTRYSWKMBDHVN-";
 
 // The digits of a table: two a letter, from index 0 to index 16, which is outside both alphabets.
 pub const DIGITS: usize = 34;

@@ -1,6 +1,7 @@
 -- Table 90: the operations of an E-CIGAR string that document 01 uses, how each is written, and how far it moves pointer r and pointer R.
 -- Assumes nothing.
 use Prim.Native.Nat.{ℕ, _+_, _≤_}
+use Prim.Native.Char.{code}
 use mathlib.Core.List.{List, [], _∷_, _++_}
 use Rattle.writing.specs.Decimal.{decimal}
 
@@ -13,31 +14,27 @@ pub data Operation : Type 0 where
   softClipped : ℕ → Operation
   hardClipped : ℕ → Operation
 
--- the character =
+-- the signs of the table
 abbrev pub equalsSign : ℕ
-equalsSign = 61
+equalsSign = code "="
 
--- the character +
 abbrev pub plusSign : ℕ
-plusSign = 43
+plusSign = code "+"
 
--- the character -
 abbrev pub minusSign : ℕ
-minusSign = 45
+minusSign = code "-"
 
--- the characters ( and )
 abbrev pub roundOpen : ℕ
-roundOpen = 40
+roundOpen = code "("
 
 abbrev pub roundClose : ℕ
-roundClose = 41
+roundClose = code ")"
 
--- the characters [ and ]
 abbrev pub squareOpen : ℕ
-squareOpen = 91
+squareOpen = code "["
 
 abbrev pub squareClose : ℕ
-squareClose = 93
+squareClose = code "]"
 
 -- a count in base 10, and the sign behind it
 abbrev pub counted : (n sign : ℕ) → List ℕ
