@@ -14,7 +14,7 @@ use lib.Seq.{drop-cons}
 use Rattle.frame.specs.Hex.{glyph, hexOf}
 use Rattle.frame.proofs.Tests.{by-test, false-true, one-of}
 use Rattle.alphabet.specs.Table35.{S₀, S₁, lettersOf, letterN, sizeOf, letterOf, codeOfN}
-use Rattle.alphabet.specs.Digits.{lettersFrom, digitsOf}
+use Rattle.alphabet.specs.code.Digits.{lettersFrom, digitsOf}
 
 -- ---- a rule of a table, from one test over it
 

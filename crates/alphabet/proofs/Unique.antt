@@ -5,7 +5,7 @@ use mathlib.Core.List.{List}
 use Prim.Native.Nat.{ℕ}
 use Rattle.frame.proofs.Unique.{once}
 use Rattle.alphabet.specs.Table35.{sizeOf, letterOf, codeOfN}
-use Rattle.alphabet.specs.Digits.{digitsOf}
+use Rattle.alphabet.specs.code.Digits.{digitsOf}
 
 pub size-once : (alphabet : ℕ) {r r′ : ℕ} → r ≡ sizeOf alphabet → r′ ≡ sizeOf alphabet → r ≡ r′
 size-once alphabet = once

@@ -1,2 +1,2 @@
 pub mod Table35
-pub mod Digits
+pub mod code

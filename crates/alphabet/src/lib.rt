@@ -1,7 +1,7 @@
 // The two alphabets of Table 35: the letter of an index.
 ghost use mathlib.Core.Path.{_≡_};
 ghost use Rattle.alphabet.specs.Table35.{sizeOf, letterOf, codeOfN};
-ghost use Rattle.alphabet.specs.Digits.{digitsOf};
+ghost use Rattle.alphabet.specs.code.Digits.{digitsOf};
 
 // Alphabet 0.
 const FIVE: [u8; 5] = *b"ACGTN";

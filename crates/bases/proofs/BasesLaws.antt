@@ -21,8 +21,9 @@ use Rattle.edits.specs.Lengths.{mappedLength}
 use Rattle.edits.specs.Edits.{insertion, deletion, widthOf, editAt, editsAt, nextOffset}
 use Rattle.edits.proofs.EditLaws.{edits-on, edits-none, width-most, edits-past}
 use Rattle.bases.specs.declared.places.Places.{Places}
-use Rattle.bases.specs.Reference.{matchedBases, matchRefusal, least}
-use Rattle.bases.specs.Bases.{R, r, farthest, beginning, pastEdit, editBases, basesFrom, refusalFrom, lettersAt, mappedBases, referenceRefusal, basesText}
+use Rattle.bases.specs.Reference.{matchedBases, matchRefusal}
+use Rattle.bases.specs.Bases.{R, r, beginning, pastEdit, editBases, basesFrom, refusalFrom, lettersAt, mappedBases, referenceRefusal, basesText}
+use Rattle.bases.specs.code.Helpers.{least, farthest}
 use Rattle.bases.proofs.ReferenceLaws.{least-left, least-right, least-most, length-letters}
 
 -- ---- both pointers behind an edit

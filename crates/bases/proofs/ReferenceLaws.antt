@@ -15,10 +15,11 @@ use Rattle.writing.specs.Lay.{lay, Laid}
 use Rattle.frame.proofs.HexLaws.{by-test}
 use Rattle.writing.proofs.LayLaws.{laid-as, laid-then, laid-room}
 use Rattle.alphabet.specs.Table35.{letterN, letterOf, sizeOf}
-use Rattle.alphabet.specs.Digits.{digitsOf}
+use Rattle.alphabet.specs.code.Digits.{digitsOf}
 use Rattle.alphabet.proofs.AlphabetLaws.{digits-high, digits-low, letter-past}
-use Rattle.bases.specs.Reference.{isLent, baseAt, baseRefusal, firstRefusal, matchedBases, matchRefusal, least, lentBefore}
-use Rattle.bases.specs.Bases.{lettersAt, symbolsRefusal}
+use Rattle.bases.specs.Reference.{isLent, baseAt, baseRefusal, firstRefusal, matchedBases, matchRefusal}
+use Rattle.bases.specs.Bases.{lettersAt}
+use Rattle.bases.specs.code.Helpers.{least, lentBefore, symbolsRefusal}
 
 -- ---- the smaller of two
 

@@ -12,7 +12,6 @@ use Rattle.edits.specs.declared.Block.{Block}
 use Rattle.edits.specs.Edits.{insertion, deletion, editsAt}
 use Rattle.edits.specs.Lengths.{mappedLength}
 use Rattle.bases.specs.declared.places.Places.{Places}
-unfoldable pub use Rattle.bases.specs.Helpers.{symbolsRefusal, farthest}
 use Rattle.bases.specs.Reference.{matchedBases, matchRefusal}
 
 -- pointer R: the current position within the reference

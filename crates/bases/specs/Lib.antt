@@ -1,4 +1,4 @@
-pub mod Helpers
 pub mod Reference
 pub mod Bases
 pub mod Alignment
+pub mod code

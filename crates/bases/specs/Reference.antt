@@ -8,7 +8,6 @@ use lib.ListN.{length, getD}
 use Rattle.refusal.specs.Numbers.{fine, symbolOut}
 pub use Rattle.refusal.specs.Numbers.{firstRefusal}
 use Rattle.alphabet.specs.Table35.{letterN, sizeOf, letterOf}
-unfoldable pub use Rattle.bases.specs.Helpers.{least, lentBefore}
 
 -- a position inside the lent reference: from that of its first base on, as many as there are bases
 unfoldable pub isLent : (reference : List ℕ) (first position : ℕ) → Bool

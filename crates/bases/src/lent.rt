@@ -6,8 +6,9 @@ ghost use Prim.Native.Nat.{_+_, _-_, _*_, _≤_};
 ghost use lib.ListN.{length, getD, replicate, set};
 ghost use Rattle.writing.specs.Lay.{Laid};
 ghost use Rattle.alphabet.specs.Table35.{letterN};
-ghost use Rattle.bases.specs.Reference.{lentBefore, matchedBases, matchRefusal, least as leastOf};
-ghost use Rattle.bases.specs.Bases.{R, r, farthest, lettersAt, symbolsRefusal};
+ghost use Rattle.bases.specs.Reference.{matchedBases, matchRefusal};
+ghost use Rattle.bases.specs.Bases.{R, r, lettersAt};
+ghost use Rattle.bases.specs.code.Helpers.{least as leastOf, lentBefore, symbolsRefusal, farthest};
 
 fn wide(b: u8) -> u32
     ensures { λ n. ⌜ n ≡ b ⌝ }

@@ -19,9 +19,10 @@ ghost use Prim.Native.Nat.{_+_, _-_, _*_, _≤_};
 ghost use lib.ListN.{length};
 ghost use Rattle.frame.specs.Hex.{unhex};
 ghost use Rattle.writing.specs.Lay.{Laid};
-ghost use Rattle.alphabet.specs.Digits.{digitsOf};
-ghost use Rattle.bases.specs.Reference.{matchedBases, least as leastOf};
-ghost use Rattle.bases.specs.Bases.{R, r, farthest, editBases, lettersAt, mappedBases, referenceRefusal, basesText};
+ghost use Rattle.alphabet.specs.code.Digits.{digitsOf};
+ghost use Rattle.bases.specs.Reference.{matchedBases};
+ghost use Rattle.bases.specs.Bases.{R, r, editBases, lettersAt, mappedBases, referenceRefusal, basesText};
+ghost use Rattle.bases.specs.code.Helpers.{least as leastOf, farthest};
 
 // A place that is inside the frame, or its end: past it every byte reads as 0, so the end stands for every place there.
 fn inside(place: usize, bytes: usize) -> usize

@@ -3,7 +3,8 @@ use crate::lent::between;
 use edits::edit::Edit;
 ghost use mathlib.Core.Path.{_≡_};
 ghost use Prim.Native.Nat.{_+_, _-_, _^_, _<_, _≤_};
-ghost use Rattle.bases.specs.Bases.{R, r, farthest, beginning, pastMatch, pastSubstitution, pastInsertion, pastDeletion, pastEdit};
+ghost use Rattle.bases.specs.Bases.{R, r, beginning, pastMatch, pastSubstitution, pastInsertion, pastDeletion, pastEdit};
+ghost use Rattle.bases.specs.code.Helpers.{farthest};
 
 // A position of the reference. It may lie behind the last position that 32 bits hold.
 pub struct RefPlace(pub u64);

@@ -25,7 +25,7 @@ use Rattle.ecigar.specs.declared.check.EditsChecked.the-variants.{Fine, 
 use Rattle.ecigar.specs.Table90.{printAll}
 use Rattle.ecigar.specs.Ecigar.{past, gap, mark, operationsFrom, ecigarOf}
 use Rattle.ecigar.specs.Check.{endsWithin, editsRefusal, answered, editsChecked, checkOf}
-use Rattle.ecigar.specs.Tally.{startTally, textBy, tallied, afterLast}
+use Rattle.ecigar.specs.code.Tally.{startTally, textBy, tallied, afterLast}
 use Rattle.ecigar.proofs.PrintLaws.{length-printed}
 use Rattle.ecigar.proofs.WalkLaws.{Open, length-mark, text-on, text-end, past-next, past-run, past-open, edit-most}
 

@@ -3,4 +3,4 @@ pub mod Ecigar
 pub mod Table93
 pub mod Table92
 pub mod Check
-pub mod Tally
+pub mod code

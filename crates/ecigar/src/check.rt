@@ -18,7 +18,7 @@ ghost use Rattle.edits.specs.Lengths.{mostRead, mostEdits, mostEcigar};
 ghost use Rattle.ecigar.specs.Table90.{printAll};
 ghost use Rattle.ecigar.specs.Ecigar.{openRun, matches, gap};
 ghost use Rattle.ecigar.specs.Check.{endsWithin, editsChecked, checkOf};
-ghost use Rattle.ecigar.specs.Tally.{startTally, textBy, tallied, afterLast};
+ghost use Rattle.ecigar.specs.code.Tally.{startTally, textBy, tallied, afterLast};
 
 // What the check keeps from edit to edit: the walk, the reference positions taken, and the length of the text so far.
 pub struct Tally {

@@ -33,7 +33,8 @@ use Rattle.segment.specs.declared.SegmentRead.{SegmentRead}
 use Rattle.segment.specs.declared.SegmentRead.the-variants as segment
 use Rattle.segment.proofs.SegmentLaws.{SegmentTaken, placed-taken, plain-taken, absent-taken}
 use Rattle.segment.proofs.StandardLaws.{SegmentAccepted, placed-accepted, placed-aligned, plain-unaligned}
-use Rattle.plan.specs.Plan.{plan, nothingLeftOver, firstSegment, secondSegment, afterSegment, fromSecond, fromFirst, fromPos, refusedReading, settled, afterAnswer, fromKind, planOf, ReadyPlan}
+use Rattle.plan.specs.Plan.{plan, nothingLeftOver, firstSegment, secondSegment, afterSegment, fromSecond, fromFirst, fromPos, refusedReading, settled, afterAnswer, fromKind, planOf}
+use Rattle.plan.specs.code.Ready.{ReadyPlan}
 use Rattle.plan.specs.Said.{Second, alone, behind, Blocks, PlanTaken}
 use Rattle.plan.specs.declared.read.Plan.{Plan}
 use Rattle.plan.specs.declared.read.Planned.{Planned}

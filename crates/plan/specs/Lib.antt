@@ -1,3 +1,4 @@
 pub mod Lent
 pub mod Plan
 pub mod Said
+pub mod code

@@ -1,7 +1,6 @@
 -- What a record line says (document 01, Lines: 03 record, and Order): 1; kind; the pair symbols; pos in U; the blocks; bytes left over.
 -- Assumes nothing.
-use Prim.Native.Nat.{ℕ, _≤_}
-use mathlib.Core.Path.{_≡_}
+use Prim.Native.Nat.{ℕ}
 use mathlib.Core.Bool.{cond}
 use mathlib.Core.List.{List}
 use lib.Dec.{ltb, eqb}
@@ -23,8 +22,7 @@ use Rattle.pairing.specs.declared.LinkRead.{LinkRead}
 use Rattle.pairing.specs.declared.LinkRead.the-variants as pair
 use Rattle.pairing.specs.declared.Link.{Link}
 use Rattle.pairing.specs.declared.Paired.{Paired}
-use Rattle.segment.specs.Segment.{segmentNumber, placedAt, plainAt, segmentBytes, segmentLength, mostSegmentBytes}
-use Rattle.segment.specs.Ready.{Ready}
+use Rattle.segment.specs.Segment.{segmentNumber, placedAt, plainAt}
 use Rattle.segment.specs.declared.Segment.{Segment}
 use Rattle.segment.specs.declared.Segment.the-variants.{Absent}
 use Rattle.segment.specs.declared.SegmentRead.{SegmentRead}
@@ -114,14 +112,3 @@ fromKind u reference symbols counts state frame =
 unfoldable pub planOf : Unit → (reference symbols counts : List ℕ) → State → (line : List ℕ) → Reading
 planOf u reference symbols counts state line =
     afterLine (refusedReading (lineNumber Malformed) state) (lineOf line) (fromKind u reference symbols counts state (unhex line))
-
--- ---- what the check leaves for the writing: `plan-ready` shows it of every line that was accepted
-
--- both segments are ready, and as long as was counted
-pub record ReadyPlan (u : Unit) (reference frame : List ℕ) (p : Plan) : Type 0 where
-  pub first : Ready u frame (p .first)
-  pub second : Ready u frame (p .second)
-  pub first-long : length (segmentBytes u reference frame (p .first)) ≡ segmentLength (p .first)
-  pub second-long : length (segmentBytes u reference frame (p .second)) ≡ segmentLength (p .second)
-  pub first-most : segmentLength (p .first) ≤ mostSegmentBytes
-  pub second-most : segmentLength (p .second) ≤ mostSegmentBytes

@@ -18,7 +18,8 @@ use Rattle.pairing.specs.declared.LinkRead.the-variants as pair
 use Rattle.segment.specs.declared.Placed.{Placed}
 use Rattle.segment.specs.declared.Segment.the-variants.{Aligned, Absent}
 use Rattle.segment.specs.declared.SegmentRead.the-variants as segment
-use Rattle.plan.specs.Plan.{firstSegment, secondSegment, ReadyPlan}
+use Rattle.plan.specs.Plan.{firstSegment, secondSegment}
+use Rattle.plan.specs.code.Ready.{ReadyPlan}
 use Rattle.plan.specs.declared.read.Plan.{Plan}
 
 -- the second: the record has none, or its block stands behind the first

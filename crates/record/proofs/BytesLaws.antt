@@ -12,8 +12,9 @@ use Rattle.unit.specs.declared.Unit.{Unit}
 use Rattle.unit.specs.declared.State.{State}
 use Rattle.pairing.specs.Table60.{mateSeqId, mappingPos}
 use Rattle.pairing.specs.declared.Link.{Link}
-use Rattle.segment.specs.Segment.{segmentBytes, segmentLength}
-use Rattle.plan.specs.Plan.{ReadyPlan}
+use Rattle.segment.specs.Segment.{segmentBytes}
+use Rattle.segment.specs.code.Length.{segmentLength}
+use Rattle.plan.specs.code.Ready.{ReadyPlan}
 use Rattle.plan.specs.declared.read.Plan.{Plan}
 use Rattle.segment.proofs.BytesLaws.{bytes-segment}
 use Rattle.unit.proofs.ListedLaws.{length-head, bytes-head}

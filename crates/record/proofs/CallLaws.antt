@@ -13,7 +13,8 @@ use Rattle.unit.specs.Listed.{refused}
 use Rattle.unit.specs.declared.Unit.{Unit}
 use Rattle.unit.specs.declared.State.{State}
 use Rattle.plan.specs.Lent.{lentRefusal}
-use Rattle.plan.specs.Plan.{planOf, ReadyPlan}
+use Rattle.plan.specs.Plan.{planOf}
+use Rattle.plan.specs.code.Ready.{ReadyPlan}
 use Rattle.plan.specs.declared.read.Plan.{Plan}
 use Rattle.plan.specs.declared.read.Planned.{Planned}
 use Rattle.plan.specs.declared.read.Planned.the-variants.{Whole}

@@ -12,7 +12,7 @@ ghost use Prim.Native.Nat.{_<_};
 ghost use lib.ListN.{length};
 ghost use Rattle.frame.specs.Hex.{unhex};
 ghost use Rattle.unit.specs.Unit.{mostRecords};
-ghost use Rattle.plan.specs.Plan.{ReadyPlan};
+ghost use Rattle.plan.specs.code.Ready.{ReadyPlan};
 ghost use Rattle.plan.specs.declared.read.Planned.the-variants.{Whole};
 ghost use Rattle.record.specs.Record.{recordOf, refusedCall, recorded, output, withRoom, stepBy};
 

@@ -13,7 +13,7 @@ ghost use lib.ListN.{length};
 ghost use Rattle.frame.specs.Hex.{unhex};
 ghost use Rattle.writing.specs.Lay.{Laid};
 ghost use Rattle.unit.specs.Listed.{words, listedHead};
-ghost use Rattle.plan.specs.Plan.{ReadyPlan};
+ghost use Rattle.plan.specs.code.Ready.{ReadyPlan};
 ghost use Rattle.record.specs.Record.{linkBytes, listedBytes};
 
 // The indexes, two bytes each.

@@ -19,8 +19,9 @@ use Rattle.block.specs.Symbols.{symbolsFrom}
 use Rattle.block.specs.Aligned.{alignedAt}
 use Rattle.block.specs.Unaligned.{fromLength, unalignedAt}
 use Rattle.segment.specs.Place.{placeRefusal}
-use Rattle.segment.specs.Segment.{underMatches, placedSegment, placed, placedAt, afterBlock, plainAt, afterPlain, alignedBytes, unalignedBytes, segmentBytes, mostSegmentBytes, segmentLength}
-use Rattle.segment.specs.Ready.{Ready}
+use Rattle.segment.specs.Segment.{underMatches, placedSegment, placed, placedAt, afterBlock, plainAt, afterPlain, alignedBytes, unalignedBytes, segmentBytes}
+use Rattle.segment.specs.code.Length.{mostSegmentBytes, segmentLength}
+use Rattle.segment.specs.code.Ready.{Ready}
 use Rattle.block.specs.declared.checked.CheckedField.{CheckedField}
 use Rattle.block.specs.declared.checked.CheckedField.the-variants as field
 use Rattle.block.specs.declared.aligned.AlignedBlock.{AlignedBlock}

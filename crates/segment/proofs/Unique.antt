@@ -5,7 +5,8 @@ use mathlib.Core.List.{List}
 use Prim.Native.Nat.{ℕ}
 use Rattle.frame.proofs.Unique.{once}
 use Rattle.unit.specs.declared.Unit.{Unit}
-use Rattle.segment.specs.Segment.{placedAt, plainAt, segmentLength}
+use Rattle.segment.specs.Segment.{placedAt, plainAt}
+use Rattle.segment.specs.code.Length.{segmentLength}
 use Rattle.segment.specs.declared.Segment.{Segment}
 use Rattle.segment.specs.declared.SegmentRead.{SegmentRead}
 

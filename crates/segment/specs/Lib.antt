@@ -1,4 +1,4 @@
 pub mod Segment
 pub mod Place
-pub mod Ready
 pub mod Listed
+pub mod code

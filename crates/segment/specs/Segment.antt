@@ -9,7 +9,7 @@ use Rattle.refusal.specs.Numbers.{fine}
 use Rattle.frame.specs.Hex.{be}
 use Rattle.unit.specs.declared.Unit.{Unit}
 use Rattle.edits.specs.declared.Block.{Block}
-use Rattle.edits.specs.Lengths.{mostRead, mostEcigar, mappedLength}
+use Rattle.edits.specs.Lengths.{mappedLength}
 use Rattle.ecigar.specs.Ecigar.{ecigarText}
 use Rattle.bases.specs.Bases.{referenceRefusal, basesText, lettersAt}
 use Rattle.block.specs.Aligned.{alignedAt, alignedNumber}
@@ -91,17 +91,3 @@ unfoldable pub segmentBytes : Unit → (reference frame : List ℕ) → Segment 
 segmentBytes u reference frame (Aligned p) = alignedBytes u reference frame p
 segmentBytes u reference frame (Unaligned s) = unalignedBytes u frame s
 segmentBytes u reference frame Absent = []
-
--- the bytes of a listed segment besides its bases and E-CIGAR
-abbrev pub fixedBytes : ℕ
-fixedBytes = 9
-
--- the most bytes that list a segment: the fixed ones, the longest read and the longest E-CIGAR
-abbrev pub mostSegmentBytes : ℕ
-mostSegmentBytes = fixedBytes + mostRead + mostEcigar
-
--- how many bytes list it: `placed-taken` and `plain-taken` (proofs/SegmentLaws) show that `segmentBytes` has as many
-unfoldable pub segmentLength : Segment → ℕ
-segmentLength (Aligned p) = fixedBytes + p .block .length + p .text
-segmentLength (Unaligned s) = fixedBytes + s .length
-segmentLength Absent = 0

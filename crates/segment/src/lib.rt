@@ -14,7 +14,8 @@ use frame::field::Cursor;
 use unit::Unit;
 ghost use mathlib.Core.Path.{_≡_};
 ghost use Rattle.frame.specs.Hex.{unhex};
-ghost use Rattle.segment.specs.Segment.{placedAt, placed, plainAt, segmentLength};
+ghost use Rattle.segment.specs.Segment.{placedAt, placed, plainAt};
+ghost use Rattle.segment.specs.code.Length.{segmentLength};
 
 // An aligned segment at its position, with the length of its E-CIGAR.
 pub struct Placed {

@@ -11,7 +11,7 @@ ghost use lib.ListN.{length};
 ghost use Rattle.frame.specs.Hex.{unhex};
 ghost use Rattle.writing.specs.Lay.{Laid};
 ghost use Rattle.segment.specs.Segment.{alignedBytes, unalignedBytes, segmentBytes};
-ghost use Rattle.segment.specs.Ready.{Ready, ReadyAligned, ReadyUnaligned};
+ghost use Rattle.segment.specs.code.Ready.{Ready, ReadyAligned, ReadyUnaligned};
 
 // A segment, from place `at` on.
 pub fn write(

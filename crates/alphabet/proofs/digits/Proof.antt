@@ -1,7 +1,7 @@
 -- `alphabet::digits` meets its contract: both tables compute. Assumes nothing.
 use Rattle.frame.specs.Hex.{glyph, hexOf}
 use Rattle.alphabet.specs.Table35.{letterOf}
-use Rattle.alphabet.specs.Digits.{lettersFrom, digitsOf}
+use Rattle.alphabet.specs.code.Digits.{lettersFrom, digitsOf}
 use borrow.Author.Tests.{eq-eqb, ne-eqb}
 use Rattle.alphabet.proofs.digits.Statement.{statement}
 use Rattle.alphabet.proofs.digits.Tie as tie

@@ -12,7 +12,7 @@ use Rattle.writing.proofs.LayLaws.{length-laid}
 use Rattle.unit.specs.Listed.{leastListed}
 use Rattle.unit.specs.State.{subsequences}
 use Rattle.unit.specs.declared.State.{State}
-use Rattle.segment.specs.Segment.{segmentLength}
+use Rattle.segment.specs.code.Length.{segmentLength}
 use Rattle.record.specs.Record.{after, listedBytes}
 use Rattle.record.proofs.BytesLaws.{length-listed}
 use Rattle.record.proofs.RoomLaws.{no-room, room}

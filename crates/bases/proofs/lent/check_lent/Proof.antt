@@ -2,7 +2,7 @@
 use Prim.Native.Nat.{_-_}
 use native.Mathlib.Omega.{arith}
 use mathlib.Core.Path.{_≡_, refl, sym, _∙_}
-use Rattle.bases.specs.Bases.{symbolsRefusal}
+use Rattle.bases.specs.code.Helpers.{symbolsRefusal}
 use Rattle.bases.proofs.ReferenceLaws.{symbols-on, symbols-out, symbols-end}
 use borrow.Author.Needs.{needs}
 use Rattle.bases.proofs.lent.check_lent.Statement.{statement}

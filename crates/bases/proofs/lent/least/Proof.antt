@@ -1,5 +1,5 @@
 -- `bases::lent::least` meets its contract. Assumes nothing.
-use Rattle.bases.specs.Reference.{least}
+use Rattle.bases.specs.code.Helpers.{least}
 use borrow.Author.Tests.{le-ltb, lt-ltb}
 use Rattle.bases.proofs.lent.least.Statement.{statement}
 use Rattle.bases.proofs.lent.least.Tie as tie

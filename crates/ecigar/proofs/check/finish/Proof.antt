@@ -2,7 +2,7 @@
 use borrow.Author.Needs.{needs}
 use lib.ListN.{length-append}
 use Rattle.ecigar.proofs.WalkLaws.{ending-both}
-use Rattle.ecigar.specs.Tally.{afterLast}
+use Rattle.ecigar.specs.code.Tally.{afterLast}
 use Rattle.ecigar.proofs.check.finish.Statement.{statement}
 use Rattle.ecigar.proofs.check.finish.Tie as tie
 

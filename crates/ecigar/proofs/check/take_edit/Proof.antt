@@ -1,6 +1,6 @@
 -- `ecigar::check::take_edit` meets its contract: each field is what its call answers. Assumes nothing.
 use borrow.Author.Needs.{needs}
-use Rattle.ecigar.specs.Tally.{tallied}
+use Rattle.ecigar.specs.code.Tally.{tallied}
 use Rattle.ecigar.proofs.check.take_edit.Statement.{statement}
 use Rattle.ecigar.proofs.check.take_edit.Tie as tie
 

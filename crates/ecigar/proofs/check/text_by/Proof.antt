@@ -2,7 +2,7 @@
 use borrow.Author.Needs.{needs}
 use native.Mathlib.Omega.{arith}
 use borrow.Author.Tests.{eq-eqb, ne-eqb}
-use Rattle.ecigar.specs.Tally.{textBy}
+use Rattle.ecigar.specs.code.Tally.{textBy}
 use Rattle.ecigar.proofs.check.text_by.Statement.{statement}
 use Rattle.ecigar.proofs.check.text_by.Tie as tie
 

@@ -1,5 +1,5 @@
 -- `segment::Part::bytes` meets its contract: the variant that was matched says the sum. Assumes nothing.
-use Rattle.segment.specs.Segment.{segmentLength}
+use Rattle.segment.specs.code.Length.{segmentLength}
 use borrow.Author.Needs.{needs}
 use Rattle.segment.proofs.Segment.bytes.Statement.{statement}
 use Rattle.segment.proofs.Segment.bytes.Tie as tie

@@ -1,4 +1,5 @@
--- For the code, not for the reader: what the private functions under a match promise, and how far a pointer can come.
+-- For the code, not for the reader.
+-- What the private functions under a match promise, and how far a pointer can come.
 -- Assumes nothing.
 use Prim.Native.Nat.{ℕ, zero, suc, _+_, _-_}
 use mathlib.Core.Bool.{cond}

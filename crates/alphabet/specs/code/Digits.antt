@@ -1,4 +1,5 @@
--- The digits of an alphabet's letters, for a writer of many: no table of the standard, but a line's text of Table 35's letters.
+-- For the code, not for the reader.
+-- The digits of an alphabet's letters, for a writer of many: a line's text of Table 35's letters.
 -- Assumes nothing.
 use Prim.Native.Nat.{ℕ, zero, suc, _+_}
 use mathlib.Core.List.{List, [], _∷_}

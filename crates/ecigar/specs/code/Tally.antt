@@ -1,4 +1,5 @@
--- For the code, not for the reader: what the check keeps from edit to edit, that is the walk, the reference positions taken and the length of the text so far.
+-- For the code, not for the reader.
+-- What the check keeps from edit to edit, that is the walk, the reference positions taken and the length of the text so far.
 -- Assumes nothing.
 use Prim.Native.Nat.{ℕ, _+_, _-_}
 use mathlib.Core.Bool.{cond}

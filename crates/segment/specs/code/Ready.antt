@@ -1,3 +1,4 @@
+-- For the code, not for the reader.
 -- What the check of a segment leaves for its writing: `placed-taken` and `plain-taken` (proofs/SegmentLaws) show it of every segment that was accepted.
 -- Assumes nothing.
 use Prim.Native.Nat.{ℕ, _+_, _*_, _≤_}
