@@ -13,7 +13,7 @@ use Rattle.frame.specs.Field.{bigAt}
 use Rattle.frame.specs.declared.field.Cursor.{Cursor}
 use Rattle.frame.proofs.HexLaws.{by-test}
 use Rattle.frame.proofs.FieldLaws.{bigAt-lt}
-use Rattle.unit.specs.Unit.{classP, classI}
+use Rattle.unit.specs.Unit.{classP, classI, classHM}
 use Rattle.alphabet.specs.Table35.{sizeOf}
 use Rattle.frame.proofs.StepLaws.{past-field, past-refusal}
 use Rattle.edits.specs.declared.Clips.{Clips}
@@ -21,7 +21,7 @@ use Rattle.edits.specs.declared.Block.{Block}
 use Rattle.edits.specs.Lengths.{mostRead, mostEdits, noClips, softBases, mappedLength}
 use Rattle.edits.specs.Edits.{widthOf, Sound, takenFrom}
 use Rattle.ecigar.specs.Check.{checkOf}
-use Rattle.ecigar.specs.Ecigar.{blockEdits, ecigarText, clipsLength}
+use Rattle.ecigar.specs.Ecigar.{blockEdits, ecigarText, clipsLength, OfItsClass}
 use Rattle.ecigar.specs.declared.check.EditsChecked.{EditsChecked}
 use Rattle.ecigar.specs.declared.check.EditsChecked.the-variants as edits
 use Rattle.ecigar.proofs.CheckLaws.{checked-fine}
@@ -169,6 +169,11 @@ pub record ReadyBlock (class alphabet : ℕ) (frame : List ℕ) (a : AlignedBloc
   pub taken : a .taken ≡ takenFrom (mappedLength (a .block .length) (a .block .clips)) 0 (blockEdits class alphabet frame (a .block))
   pub text : a .text ≡ length (ecigarText class alphabet frame (a .block))
   pub inside : a .next .at ≤ length frame
+
+-- it is as its class has it
+pub of-its-class : (class alphabet : ℕ) (frame : List ℕ) (a : AlignedBlock) → ReadyBlock class alphabet frame a → classP ≤ class → class ≤ classHM → OfItsClass class (a .block)
+of-its-class class alphabet frame a r first last =
+    record { first = first; last = last; clips = r .sides .bare; edits = r .plain; mapped = omega (arith, r .sides .soft) }
 
 -- the edits, where the block's other fields are accepted
 pub tallied-ready : (class alphabet : ℕ) (frame : List ℕ) (s : Block) (a : AlignedBlock) → editsTallied class alphabet frame s ≡ Whole a

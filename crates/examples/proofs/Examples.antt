@@ -8,8 +8,8 @@ use Rattle.bases.specs.Bases.{pastEdit, editBases, basesFrom, refusalFrom, lett
 use Rattle.bases.specs.Reference.{isLent, baseAt, baseRefusal, matchedBases, matchRefusal}
 use Rattle.edits.specs.Edits.{widthOf, editAt, editsAt, nextOffset, deletionRefusal, editRefusal, takenFrom}
 use Rattle.ecigar.specs.Check.{editsRefusal, answered, editsChecked, checkOf}
-use Rattle.ecigar.specs.Ecigar.{joinsRun, past, matches, openRun, gap, mark, ending, operationsFrom, clip, blockOperations, ecigarText}
-use Rattle.ecigar.specs.Table90.{printAll}
+use Rattle.ecigar.specs.Table92.{leftClipped, rightClipped, ecigarString}
+use Rattle.ecigar.specs.Table93.{withMatch, mismatchLoop, insertionLoop, deletionLoop, indelLoop, decodeECigarMismatches}
 use Rattle.writing.specs.Decimal.{decimalF, decimal}
 use Rattle.frame.specs.Field.{bigAt, fieldAt}
 use Rattle.frame.specs.Hex.{isDigit, nib, unhex, allDigits, be}
@@ -31,5 +31,5 @@ use Rattle.record.specs.Record.{stepOf, linkBytes, listedBytes}
 use Rattle.examples.specs.Examples.{Examples}
 
 pub examples : Examples
-unfolding pastEdit editBases basesFrom refusalFrom lettersAt basesText isLent baseAt baseRefusal matchedBases matchRefusal widthOf editAt editsAt nextOffset deletionRefusal editRefusal takenFrom editsRefusal answered editsChecked checkOf joinsRun past matches openRun gap mark ending operationsFrom clip blockOperations ecigarText printAll decimalF decimal bigAt fieldAt isDigit nib unhex allDigits be lineWithin decode recordSteps pairOf same-rec table60 takeOf countsOut within stateRefusal lentRefusal firstSegment secondSegment fromSecond fromFirst fromPos fromKind planOf linkBytes listedBytes stepOf fromEdits fromSoft fromClips fromRcomp alignedAt lengthAt rcompAt countAt clipsIn clipsAt placed placedAt plainAt alignedBytes unalignedBytes segmentBytes placeRefusal symbolsFrom fromLength unalignedAt words listedHead sizeOf letterOf codeOfN leastSegments unitRefusal finishedPlan talliedBlock
+unfolding pastEdit editBases basesFrom refusalFrom lettersAt basesText isLent baseAt baseRefusal matchedBases matchRefusal widthOf editAt editsAt nextOffset deletionRefusal editRefusal takenFrom editsRefusal answered editsChecked checkOf leftClipped rightClipped ecigarString withMatch mismatchLoop insertionLoop deletionLoop indelLoop decodeECigarMismatches decimalF decimal bigAt fieldAt isDigit nib unhex allDigits be lineWithin decode recordSteps pairOf same-rec table60 takeOf countsOut within stateRefusal lentRefusal firstSegment secondSegment fromSecond fromFirst fromPos fromKind planOf linkBytes listedBytes stepOf fromEdits fromSoft fromClips fromRcomp alignedAt lengthAt rcompAt countAt clipsIn clipsAt placed placedAt plainAt alignedBytes unalignedBytes segmentBytes placeRefusal symbolsFrom fromLength unalignedAt words listedHead sizeOf letterOf codeOfN leastSegments unitRefusal finishedPlan talliedBlock
 examples = refl

@@ -91,16 +91,20 @@ module _ (u : Unit) (reference frame : List ℕ) (p : Plan) where
 
 -- ---- they are ready to be written
 
-module _ (u : Unit) (reference frame : List ℕ) (bytes : (i : ℕ) → getD frame i 0 < 256) where
+module _ (u : Unit) (reference frame : List ℕ) (bytes : (i : ℕ) → getD frame i 0 < 256) (valid : UnitValid u) where
   first-taken : (pos at : ℕ) (p : Segment) (next : Cursor) → firstSegment u reference frame pos at ≡ segment.Whole p next → SegmentTaken u reference frame p (next .at)
   unfolding firstSegment
   first-taken pos at p next q =
-      by-test (eqb (u .class) classU) (λ t. plain-taken u reference frame at p next (simp t at q)) (λ t. placed-taken u reference frame pos at p next bytes (simp t at q))
+      by-test (eqb (u .class) classU)
+      (λ t. plain-taken u reference frame at p next (simp t at q))
+      (λ t. placed-taken u reference frame pos p next (valid .class-least) (omega (arith, valid .class-most, eqb-false (u .class) classU t)) at bytes (simp t at q))
 
   second-taken : (link : Link) (pos at : ℕ) (p : Segment) (next : Cursor) → secondSegment u reference frame link pos at ≡ segment.Whole p next → SegmentTaken u reference frame p (next .at)
   unfolding secondSegment
   second-taken link pos at p next q =
-      by-test (ltb (u .class) classHM) (λ t. placed-taken u reference frame _ at p next bytes (simp t at q)) (λ t. plain-taken u reference frame at p next (simp t at q))
+      by-test (ltb (u .class) classHM)
+      (λ t. placed-taken u reference frame _ p next (valid .class-least) (omega (arith, ltb-true (u .class) classHM t)) at bytes (simp t at q))
+      (λ t. plain-taken u reference frame at p next (simp t at q))
 
   both-ready : (p : Plan) (a b : ℕ) → SegmentTaken u reference frame (p .first) a → SegmentTaken u reference frame (p .second) b → ReadyPlan u reference frame p
   both-ready p a b f s =
@@ -147,7 +151,6 @@ module _ (u : Unit) (reference symbols counts : List ℕ) (state : State) (line 
             moved-is = sym (ap (λ (r : Reading). r .state) z);
             pos-is = b .pos-is;
             blocks = b .blocks;
-            ready = blocks-ready u reference (unhex line) (byte-lt line) 5 p (b .blocks);
           }
 
       by-answer : (size : ℕ) → lineOf line ≡ Frame size → bigAt 1 (unhex line) 0 ≡ kindRecord → (x : LinkRead) → pairOf u symbols counts state .answer ≡ x
@@ -155,8 +158,8 @@ module _ (u : Unit) (reference symbols counts : List ℕ) (state : State) (line 
       by-answer size w k (pair.Refused n) e z = absurd (refused-never n state z)
       by-answer size w k (pair.Linked link) e z = by-plan size w k link e (fromPos u reference (unhex line) link 1) refl z
 
-  pub plan-ready : planOf u reference symbols counts state line ≡ record { planned = Whole p; state = moved } → ReadyPlan u reference (unhex line) p
-  plan-ready q = plan-taken q .ready
+  pub plan-ready : UnitValid u → PlanTaken u reference symbols counts state line p moved → ReadyPlan u reference (unhex line) p
+  plan-ready valid t = blocks-ready u reference (unhex line) (byte-lt line) valid 5 p (t .blocks)
 
 -- ---- which of its segments are aligned (10.4.10): all in P, N, M and I, the first in HM, none in U
 

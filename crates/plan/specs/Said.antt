@@ -19,7 +19,6 @@ use Rattle.segment.specs.declared.Placed.{Placed}
 use Rattle.segment.specs.declared.Segment.the-variants.{Aligned, Absent}
 use Rattle.segment.specs.declared.SegmentRead.the-variants as segment
 use Rattle.plan.specs.Plan.{firstSegment, secondSegment}
-use Rattle.plan.specs.code.Ready.{ReadyPlan}
 use Rattle.plan.specs.declared.read.Plan.{Plan}
 
 -- the second: the record has none, or its block stands behind the first
@@ -42,7 +41,6 @@ pub record PlanTaken (u : Unit) (reference symbols counts : List ℕ) (state : S
   pub moved-is : moved ≡ pairOf u symbols counts state .state
   pub pos-is : p .pos ≡ bigAt 4 (unhex line) 1
   pub blocks : Blocks u reference (unhex line) 5 p
-  pub ready : ReadyPlan u reference (unhex line) p
 
 -- an aligned segment of the record: its first, or its second
 abbrev pub AlignedIn : Plan → Placed → Type 0

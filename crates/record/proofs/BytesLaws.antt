@@ -48,14 +48,14 @@ module _ (u : Unit) (reference frame : List ℕ) (number : ℕ) (next : State) (
   unfolding listedBytes
   listed-head = simp append-assoc
 
-  pub bytes-listed : Bytes (listedBytes u reference frame number next p)
-  bytes-listed =
+  pub bytes-listed : ReadyPlan u reference frame p → Bytes (listedBytes u reference frame number next p)
+  bytes-listed h =
       rw listed-head
       (bytes-append (listedHead number next) (tailBytes u reference frame p) (bytes-head number next)
       (simp append-assoc
       (bytes-append (linkBytes (u .sequence) (p .pos) (p .link)) _ (bytes-link (u .sequence) (p .pos) (p .link))
-      (bytes-append (segmentBytes u reference frame (p .first)) _ (bytes-segment u reference frame (p .first))
-      (bytes-segment u reference frame (p .second))))))
+      (bytes-append (segmentBytes u reference frame (p .first)) _ (bytes-segment u reference frame (p .first) (h .first))
+      (bytes-segment u reference frame (p .second) (h .second))))))
 
   -- the bytes before the segments, and those of each segment
   pub length-listed : ReadyPlan u reference frame p → length (listedBytes u reference frame number next p) ≡ 12 + 2 * length (next .index) + segmentLength (p .first) + segmentLength (p .second)

@@ -19,7 +19,7 @@ use Rattle.plan.specs.declared.read.Plan.{Plan}
 use Rattle.plan.specs.declared.read.Planned.{Planned}
 use Rattle.plan.specs.declared.read.Planned.the-variants.{Whole}
 use Rattle.plan.specs.declared.read.Reading.{Reading}
-use Rattle.plan.proofs.PlanLaws.{plan-ready}
+use Rattle.plan.proofs.PlanLaws.{plan-taken, plan-ready}
 use Rattle.plan.proofs.StateLaws.{lent-taken}
 use Rattle.record.specs.Record.{stepBy, withRoom, stepOf, recordOf}
 
@@ -43,8 +43,9 @@ module _ (u : Unit) (reference symbols counts : List ℕ) (state : State) {n : �
   pub number-fits : n ≡ fine → state .number < mostRecords
   number-fits h = let l = lent-taken u (length reference) (length symbols) counts state (sym e ∙ h) in omega (arith, l .in-count, l .unit .records)
 
--- a line that was accepted is ready to be written
-pub line-ready : (u : Unit) (reference symbols counts : List ℕ) (state : State) (line : List ℕ) {r : Reading} {p : Plan} → r ≡ planOf u reference symbols counts state line → r .planned ≡ Whole p
-    → ReadyPlan u reference (unhex line) p
-line-ready u reference symbols counts state line {r} {p} f g =
-    plan-ready u reference symbols counts state line p (r .state) (sym f ∙ ap (λ (x : Planned). record { planned = x; state = r .state }) g)
+  -- a line that was accepted is ready to be written
+  pub line-ready : (line : List ℕ) {r : Reading} {p : Plan} → n ≡ fine → r ≡ planOf u reference symbols counts state line → r .planned ≡ Whole p → ReadyPlan u reference (unhex line) p
+  line-ready line {r} {p} h f g =
+      let l = lent-taken u (length reference) (length symbols) counts state (sym e ∙ h) in
+      plan-ready u reference symbols counts state line p (r .state) (l .unit)
+      (plan-taken u reference symbols counts state line p (r .state) (sym f ∙ ap (λ (x : Planned). record { planned = x; state = r .state }) g))

@@ -34,7 +34,7 @@ use Rattle.plan.specs.Said.{PlanTaken, AlignedIn}
 use Rattle.plan.specs.declared.read.Plan.{Plan}
 use Rattle.plan.specs.declared.read.Planned.{Planned}
 use Rattle.plan.specs.declared.read.Planned.the-variants.{Whole, Refused}
-use Rattle.plan.proofs.PlanLaws.{plan-taken, first-aligned, second-aligned}
+use Rattle.plan.proofs.PlanLaws.{plan-taken, plan-ready, first-aligned, second-aligned}
 use Rattle.plan.proofs.RefusalLaws.{EarlyPlan, lent-early, plan-early}
 use Rattle.plan.proofs.StateLaws.{LentTaken, lent-taken}
 use Rattle.record.specs.Record.{linkBytes, listedBytes, after, stepBy, stepOf, withRoom, recordOf}
@@ -120,16 +120,17 @@ module _ (u : UnitOf) (reference symbols counts : List ℕ) (state : State) (lin
   listed p moved lent taken f n eight =
       let i : moved ≡ pairOf u symbols counts state .state = taken .moved-is in
       let eight-after : length (moved .index) ≡ subsequences = rw i (pair-follows u symbols counts state .long ∙ eight) in
-      let long = length-listed u reference (unhex line) (state .number) (after state moved) p (taken .ready) in
+      let ready = plan-ready u reference symbols counts state line p moved (lent .unit) taken in
+      let long = length-listed u reference (unhex line) (state .number) (after state moved) p ready in
       rw (f, n)
       record {
         size = taken .size;
         well-formed = taken .well-formed;
         tail = tailBytes u reference (unhex line) p;
         head = listed-head u reference (unhex line) (state .number) (after state moved) p;
-        bytes = bytes-listed u reference (unhex line) (state .number) (after state moved) p;
+        bytes = bytes-listed u reference (unhex line) (state .number) (after state moved) p ready;
         least = omega (arith, long, eight-after);
-        most = omega (arith, long, eight-after, taken .ready .first-most, taken .ready .second-most);
+        most = omega (arith, long, eight-after, ready .first-most, ready .second-most);
         in-count = lent .in-count;
         number = refl;
         indexes = eight-after;

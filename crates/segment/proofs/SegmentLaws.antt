@@ -1,6 +1,6 @@
 -- The laws of a segment that was accepted: it is ready to be written, its bytes are as many as `segmentLength` says, and that is at most `mostSegmentBytes`.
 -- Assumes nothing.
-use mathlib.Core.Path.{_≡_, refl, ap}
+use mathlib.Core.Path.{_≡_, refl, ap, _∙_}
 use mathlib.Core.List.{List}
 use Prim.Native.Nat.{ℕ, _+_, _<_, _≤_}
 use native.Mathlib.Omega.{arith}
@@ -9,17 +9,19 @@ use lib.ListN.{length, getD, length-append}
 use Rattle.refusal.specs.Numbers.{fine}
 use Rattle.frame.specs.declared.field.Cursor.{Cursor}
 use Rattle.frame.proofs.HexLaws.{by-test, length-be}
+use Rattle.unit.specs.Unit.{classP, classHM}
 use Rattle.unit.specs.declared.Unit.{Unit}
 use Rattle.edits.specs.Lengths.{mostRead}
 use Rattle.bases.specs.Alignment.{Acceptable}
 use Rattle.bases.proofs.ReadLaws.{read-length}
+use Rattle.ecigar.specs.Ecigar.{OfItsClass}
 use Rattle.ecigar.proofs.OperationLaws.{ecigar-most}
 use Rattle.block.specs.Checked.{lengthAt, afterChecked}
 use Rattle.block.specs.Symbols.{symbolsFrom}
 use Rattle.block.specs.Aligned.{alignedAt}
 use Rattle.block.specs.Unaligned.{fromLength, unalignedAt}
 use Rattle.segment.specs.Place.{placeRefusal}
-use Rattle.segment.specs.Segment.{underMatches, placedSegment, placed, placedAt, afterBlock, plainAt, afterPlain, alignedBytes, unalignedBytes, segmentBytes}
+use Rattle.segment.specs.Segment.{underMatches, placement, placedSegment, placed, placedAt, afterBlock, plainAt, afterPlain, table92, alignedBytes, unalignedBytes, segmentBytes}
 use Rattle.segment.specs.code.Length.{mostSegmentBytes, segmentLength}
 use Rattle.segment.specs.code.Ready.{Ready}
 use Rattle.block.specs.declared.checked.CheckedField.{CheckedField}
@@ -34,8 +36,9 @@ use Rattle.segment.specs.declared.Segment.{Segment}
 use Rattle.segment.specs.declared.Segment.the-variants.{Unaligned, Absent}
 use Rattle.segment.specs.declared.SegmentRead.{SegmentRead}
 use Rattle.segment.specs.declared.SegmentRead.the-variants.{Whole, Refused}
-use Rattle.block.proofs.ReadyLaws.{ReadyBlock, block-ready, length-got, symbols-got}
+use Rattle.block.proofs.ReadyLaws.{ReadyBlock, of-its-class, block-ready, length-got, symbols-got}
 use Rattle.bases.proofs.ReferenceLaws.{length-letters}
+use Rattle.segment.proofs.WriteLaws.{text-is-table92}
 
 -- what is known of a segment that was accepted, and of the place behind its block
 pub record SegmentTaken (u : Unit) (reference frame : List ℕ) (p : Segment) (next : ℕ) : Type 0 where
@@ -46,46 +49,52 @@ pub record SegmentTaken (u : Unit) (reference frame : List ℕ) (p : Segment) (n
 
 -- ---- an aligned segment
 
-aligned-long : (u : Unit) (reference frame : List ℕ) (position : ℕ) (a : AlignedBlock) → ReadyBlock (u .class) (u .alphabet) frame a
-    → length (segmentBytes u reference frame (placedSegment position a)) ≡ segmentLength (placedSegment position a)
-unfolding segmentBytes alignedBytes segmentLength
-aligned-long u reference frame position a r =
-    let fit : Acceptable (u .class) (u .alphabet) frame (a .block) = record { clips = r .sides .soft; edits = r .sound } in
-    simp (length-append, length-be)
-    (omega (arith, r .text, read-length (u .class) (u .alphabet) frame reference (u .first) position (a .block) fit))
+module _ (u : Unit) (reference frame : List ℕ) (position : ℕ) where
+  module _ (a : AlignedBlock) (r : ReadyBlock (u .class) (u .alphabet) frame a) where
+    aligned-most : segmentLength (placedSegment position a) ≤ mostSegmentBytes
+    unfolding segmentLength
+    aligned-most =
+        omega (arith, r .text, r .sides .most, ecigar-most (u .class) (u .alphabet) frame (a .block) (r .few) (r .sides .most) (r .sides .fit) (r .sound))
 
-aligned-most : (u : Unit) (frame : List ℕ) (position : ℕ) (a : AlignedBlock) → ReadyBlock (u .class) (u .alphabet) frame a → segmentLength (placedSegment position a) ≤ mostSegmentBytes
-unfolding segmentLength
-aligned-most u frame position a r =
-    omega (arith, r .text, r .sides .most, ecigar-most (u .class) (u .alphabet) frame (a .block) (r .few) (r .sides .most) (r .sides .fit) (r .sound))
+    module _ (class : OfItsClass (u .class) (a .block)) where
+      aligned-text : a .text ≡ length (table92 u frame (placement position a))
+      aligned-text = r .text ∙ ap (λ (x : List ℕ). length x) (text-is-table92 u frame (placement position a) class (r .sound))
 
-aligned-taken : (u : Unit) (reference frame : List ℕ) (position : ℕ) (a : AlignedBlock) (p : Segment) (next : Cursor) → ReadyBlock (u .class) (u .alphabet) frame a
-    → placed u reference frame position a ≡ Whole p next → SegmentTaken u reference frame p (next .at)
-unfolding placed
-aligned-taken u reference frame position a p next r q =
-    by-test (eqb (placeRefusal (u .start) (u .end) position (a .taken)) fine)
-    (λ s. by-test (eqb (underMatches u reference frame position (a .block)) fine)
-    (λ t.
-    let w : _≡_ {A = SegmentRead} (Whole (placedSegment position a) (a .next)) (Whole p next) = simp (s, t) at q in
-    let e : p ≡ placedSegment position a = cc in
-    let n : next .at ≡ a .next .at = ap (λ (c : Cursor). c .at) (cc) in
-    rw (e, n)
-    record {
-      ready = record { few = r .few; framed = r .framed; sound = r .sound; text = r .text };
-      long = aligned-long u reference frame position a r;
-      most = aligned-most u frame position a r;
-      inside = r .inside;
-    })
-    (λ t. absurd (let w = simp (s, t) at q in let z : _≡_ {A = ℕ} 0 1 = cc in omega arith)))
-    (λ s. absurd (let w = simp s at q in let z : _≡_ {A = ℕ} 0 1 = cc in omega arith))
+      aligned-long : length (segmentBytes u reference frame (placedSegment position a)) ≡ segmentLength (placedSegment position a)
+      unfolding segmentBytes alignedBytes segmentLength
+      aligned-long =
+          let fit : Acceptable (u .class) (u .alphabet) frame (a .block) = record { clips = r .sides .soft; edits = r .sound } in
+          simp (length-append, length-be)
+          (omega (arith, aligned-text, read-length (u .class) (u .alphabet) frame reference (u .first) position (a .block) fit))
 
-pub placed-taken : (u : Unit) (reference frame : List ℕ) (position at : ℕ) (p : Segment) (next : Cursor) → ((i : ℕ) → getD frame i 0 < 256) → placedAt u reference frame position at ≡ Whole p next → SegmentTaken u reference frame p (next .at)
-unfolding placedAt
-placed-taken u reference frame position at p next bytes q = by (alignedAt (u .class) (u .alphabet) frame at) refl q
-  where
-    by : (x : AlignedRead) → alignedAt (u .class) (u .alphabet) frame at ≡ x → afterBlock u reference frame position x ≡ Whole p next → SegmentTaken u reference frame p (next .at)
-    by (aligned.Refused n) e z = absurd (let y : _≡_ {A = ℕ} 0 1 = cc in omega arith)
-    by (aligned.Whole a) e z = aligned-taken u reference frame position a p next (block-ready (u .class) (u .alphabet) frame bytes a at e) z
+  module _ (p : Segment) (next : Cursor) (first : classP ≤ u .class) (last : u .class ≤ classHM) where
+    aligned-taken : (a : AlignedBlock) → ReadyBlock (u .class) (u .alphabet) frame a → placed u reference frame position a ≡ Whole p next → SegmentTaken u reference frame p (next .at)
+    unfolding placed
+    aligned-taken a r q =
+        by-test (eqb (placeRefusal (u .start) (u .end) position (a .taken)) fine)
+        (λ s. by-test (eqb (underMatches u reference frame position (a .block)) fine)
+        (λ t.
+        let w : _≡_ {A = SegmentRead} (Whole (placedSegment position a) (a .next)) (Whole p next) = simp (s, t) at q in
+        let e : p ≡ placedSegment position a = cc in
+        let n : next .at ≡ a .next .at = ap (λ (c : Cursor). c .at) (cc) in
+        let class = of-its-class (u .class) (u .alphabet) frame a r first last in
+        rw (e, n)
+        record {
+          ready = record { class = class; few = r .few; framed = r .framed; sound = r .sound; text = aligned-text a r class };
+          long = aligned-long a r class;
+          most = aligned-most a r;
+          inside = r .inside;
+        })
+        (λ t. absurd (let w = simp (s, t) at q in let z : _≡_ {A = ℕ} 0 1 = cc in omega arith)))
+        (λ s. absurd (let w = simp s at q in let z : _≡_ {A = ℕ} 0 1 = cc in omega arith))
+
+    pub placed-taken : (at : ℕ) → ((i : ℕ) → getD frame i 0 < 256) → placedAt u reference frame position at ≡ Whole p next → SegmentTaken u reference frame p (next .at)
+    unfolding placedAt
+    placed-taken at bytes q = by (alignedAt (u .class) (u .alphabet) frame at) refl q
+      where
+        by : (x : AlignedRead) → alignedAt (u .class) (u .alphabet) frame at ≡ x → afterBlock u reference frame position x ≡ Whole p next → SegmentTaken u reference frame p (next .at)
+        by (aligned.Refused n) e z = absurd (let y : _≡_ {A = ℕ} 0 1 = cc in omega arith)
+        by (aligned.Whole a) e z = aligned-taken a (block-ready (u .class) (u .alphabet) frame bytes a at e) z
 
 -- ---- an unaligned segment
 

@@ -20,9 +20,7 @@ use Rattle.edits.specs.Lengths.{softBases}
 use Rattle.edits.specs.Edits.{takenFrom}
 use Rattle.ecigar.specs.Table90.{movesRead, movesReference, total, printAll, AllPositive}
 use Rattle.ecigar.specs.Ecigar.{ecigarText, OfItsClass}
-use Rattle.ecigar.proofs.Table92Laws.{ecigar-is-table92}
 use Rattle.ecigar.proofs.OperationLaws.{counts-positive, operations-read, operations-reference}
-use Rattle.bases.proofs.ReferenceLaws.{length-letters}
 use Rattle.bases.specs.Reference.{isLent, lentSymbol, baseAt, baseRefusal}
 use Rattle.bases.specs.Bases.{beginning}
 use Rattle.bases.specs.Alignment.{Acceptable}
@@ -32,7 +30,7 @@ use Rattle.block.specs.Aligned.{alignedAt}
 use Rattle.block.specs.Unaligned.{unalignedAt}
 use Rattle.segment.specs.Place.{placeRefusal}
 use Rattle.segment.specs.Segment.{underMatches, placedSegment, placed, afterBlock, placedAt, afterPlain, plainAt}
-use Rattle.segment.specs.Listed.{listedBases, listedEcigar, listedOperations, editsIn, mappedIn, leftSoftClips, rightSoftClips, table92, Matches, Brought, Letter}
+use Rattle.segment.specs.Listed.{listedBases, listedEcigar, listedOperations, editsIn, mappedIn, table92, Matches, Brought, Letter}
 use Rattle.block.specs.declared.aligned.AlignedBlock.{AlignedBlock}
 use Rattle.block.specs.declared.aligned.AlignedRead.{AlignedRead}
 use Rattle.block.specs.declared.aligned.AlignedRead.the-variants as aligned
@@ -45,7 +43,8 @@ use Rattle.segment.specs.declared.Segment.the-variants.{Aligned, Unalign
 use Rattle.segment.specs.declared.SegmentRead.{SegmentRead}
 use Rattle.segment.specs.declared.SegmentRead.the-variants.{Whole, Refused}
 use Rattle.segment.proofs.PlaceLaws.{Inside, place-inside}
-use Rattle.block.proofs.ReadyLaws.{ReadyBlock, block-ready}
+use Rattle.block.proofs.ReadyLaws.{ReadyBlock, of-its-class, block-ready}
+use Rattle.segment.proofs.WriteLaws.{text-is-table92}
 
 -- ---- an aligned segment that was accepted
 
@@ -69,7 +68,7 @@ module _ (u : Unit) (reference frame : List ℕ) (position : ℕ) (q : Placed) (
       let i : q ≡ record { block = a .block; position = position; text = a .text } = cc in
       rw i (
         record {
-          class = record { first = first; last = last; clips = r .sides .bare; edits = r .plain; mapped = omega (arith, r .sides .soft) };
+          class = of-its-class (u .class) (u .alphabet) frame a r first last;
           block = record { clips = r .sides .soft; edits = r .sound };
           symbols = r .sides .symbols;
           place = rw (← r .taken) (place-inside (u .start) (u .end) position (a .taken) (eqb-true _ _ s));
@@ -142,12 +141,11 @@ base-letter alphabet reference first at z =
 
 module _ (u : Unit) (reference frame : List ℕ) (q : Placed) (a : SegmentAccepted u reference frame q) where
   pub listed-is-table92 : listedEcigar u frame q ≡ table92 u frame q
-  listed-is-table92 =
-      ecigar-is-table92 (u .class) (u .alphabet) frame (q .block) (leftSoftClips u frame q) (rightSoftClips u frame q) (a .class) (a .block .edits) (length-letters _ _ _ _) (length-letters _ _ _ _)
+  listed-is-table92 = refl
 
   pub listed-operations : listedEcigar u frame q ≡ printAll (listedOperations u frame q)
   unfolding ecigarText
-  listed-operations = refl
+  listed-operations = sym (text-is-table92 u frame q (a .class) (a .block .edits))
 
   pub listed-counts : AllPositive (listedOperations u frame q)
   listed-counts = counts-positive (u .class) (u .alphabet) frame (q .block)

@@ -1,6 +1,6 @@
--- The words in which an aligned segment that is listed is compared with the standard: its bases and E-CIGAR as they are listed, and what the tables take of it.
+-- The words in which an aligned segment that is listed is compared with the standard: its bases and E-CIGAR as they are listed, and where its bases come from.
 -- Assumes nothing.
-use Prim.Native.Nat.{ℕ, _+_, _<_}
+use Prim.Native.Nat.{ℕ, _<_}
 use mathlib.Core.Path.{_≡_}
 use mathlib.Core.List.{List}
 use Rattle.unit.specs.declared.Unit.{Unit}
@@ -8,11 +8,11 @@ use Rattle.alphabet.specs.Table35.{sizeOf, letterOf}
 use Rattle.edits.specs.declared.edit.Edit.{Edit}
 use Rattle.edits.specs.Lengths.{mappedLength}
 use Rattle.ecigar.specs.Table90.{Operation}
-use Rattle.ecigar.specs.Table92.{ecigarString}
-use Rattle.ecigar.specs.Ecigar.{blockEdits, blockOperations, ecigarText, offsetsOf, lettersIn, typesOf}
-use Rattle.bases.specs.Bases.{beginning, basesText, lettersAt}
+use Rattle.ecigar.specs.Ecigar.{blockOperations}
+use Rattle.bases.specs.Bases.{beginning, basesText}
 use Rattle.bases.specs.Alignment.{UnderMatch, OfEdit}
 use Rattle.segment.specs.declared.Placed.{Placed}
+pub use Rattle.segment.specs.Segment.{editsIn, table92}
 
 -- ---- as it is listed (`alignedBytes`)
 
@@ -20,37 +20,17 @@ abbrev pub listedBases : Unit → List ℕ → List ℕ → Placed → List ℕ
 listedBases u reference frame q = basesText (u .class) (u .alphabet) frame reference (u .first) (q .position) (q .block)
 
 abbrev pub listedEcigar : Unit → List ℕ → Placed → List ℕ
-listedEcigar u frame q = ecigarText (u .class) (u .alphabet) frame (q .block)
+listedEcigar u frame q = table92 u frame q
 
--- the rows of Table 90 that the E-CIGAR is written from
+-- rows of Table 90 that the E-CIGAR is written by
 abbrev pub listedOperations : Unit → List ℕ → Placed → List Operation
 listedOperations u frame q = blockOperations (u .class) (u .alphabet) frame (q .block)
-
--- ---- what its block says
-
--- its edits
-abbrev pub editsIn : Unit → List ℕ → Placed → List Edit
-editsIn u frame q = blockEdits (u .class) (u .alphabet) frame (q .block)
 
 -- how many of its bases are mapped
 abbrev pub mappedIn : Placed → ℕ
 mappedIn q = mappedLength (q .block .length) (q .block .clips)
 
--- leftSoftClips and rightSoftClips of Table 92: the letters of its soft-clipped bases
-abbrev pub leftSoftClips : Unit → List ℕ → Placed → List ℕ
-leftSoftClips u frame q = lettersAt (u .alphabet) frame (q .block .«soft_at») (q .block .clips .«left_soft»)
-
-abbrev pub rightSoftClips : Unit → List ℕ → Placed → List ℕ
-rightSoftClips u frame q = lettersAt (u .alphabet) frame (q .block .«soft_at» + q .block .clips .«left_soft») (q .block .clips .«right_soft»)
-
--- ---- what the standard says
-
--- ecigarString of Table 92
-abbrev pub table92 : Unit → List ℕ → Placed → List ℕ
-table92 u frame q =
-    ecigarString (u .class) (q .block .length) (q .block .edits)
-    (offsetsOf (editsIn u frame q)) (lettersIn (u .alphabet) (editsIn u frame q)) (typesOf (editsIn u frame q))
-    (leftSoftClips u frame q) (rightSoftClips u frame q) (q .block .clips .«left_hard») (q .block .clips .«right_hard»)
+-- ---- where its bases come from
 
 -- mapped base i matches the reference at a position (10.6.1)
 abbrev pub Matches : Unit → List ℕ → Placed → ℕ → ℕ → Type 0

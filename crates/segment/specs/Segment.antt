@@ -8,9 +8,11 @@ use lib.ListN.{length}
 use Rattle.refusal.specs.Numbers.{fine}
 use Rattle.frame.specs.Hex.{be}
 use Rattle.unit.specs.declared.Unit.{Unit}
+use Rattle.edits.specs.declared.edit.Edit.{Edit}
 use Rattle.edits.specs.declared.Block.{Block}
+use Rattle.edits.specs.Edits.{blockEdits}
 use Rattle.edits.specs.Lengths.{mappedLength}
-use Rattle.ecigar.specs.Ecigar.{ecigarText}
+use Rattle.ecigar.specs.Table92.{ecigarString, offsetsOf, lettersIn, typesOf}
 use Rattle.bases.specs.Bases.{referenceRefusal, basesText, lettersAt}
 use Rattle.block.specs.Aligned.{alignedAt, alignedNumber}
 use Rattle.block.specs.Unaligned.{unalignedAt, unalignedNumber}
@@ -44,8 +46,11 @@ underMatches u reference frame position s =
     referenceRefusal (u .class) (u .alphabet) frame reference (u .first) position (mappedLength (s .length) (s .clips)) (s .edits) (s .«edits_at»)
 
 -- what the record has of it
+abbrev pub placement : (position : ℕ) → AlignedBlock → Placed
+placement position a = record { block = a .block; position = position; text = a .text }
+
 abbrev pub placedSegment : (position : ℕ) → AlignedBlock → Segment
-placedSegment position a = Aligned record { block = a .block; position = position; text = a .text }
+placedSegment position a = Aligned (placement position a)
 
 -- after each aligned segment 13, then 10 for the reference
 unfoldable pub placed : Unit → (reference frame : List ℕ) (position : ℕ) → AlignedBlock → SegmentRead
@@ -72,15 +77,32 @@ plainAt u frame at = afterPlain (unalignedAt (u .alphabet) frame at)
 
 -- ---- what lists it
 
--- position u32, rcomp, read length u16, bases as letters, E-CIGAR length u16, E-CIGAR as ASCII (Table 92's ecigarString: `listed-is-table92`)
+-- what Table 92 takes of an aligned segment: its edits, and leftSoftClips and rightSoftClips, the letters of its soft-clipped bases
+abbrev pub editsIn : Unit → (frame : List ℕ) → Placed → List Edit
+editsIn u frame p = blockEdits (u .class) (u .alphabet) frame (p .block)
+
+abbrev pub leftSoftClips : Unit → (frame : List ℕ) → Placed → List ℕ
+leftSoftClips u frame p = lettersAt (u .alphabet) frame (p .block .«soft_at») (p .block .clips .«left_soft»)
+
+abbrev pub rightSoftClips : Unit → (frame : List ℕ) → Placed → List ℕ
+rightSoftClips u frame p = lettersAt (u .alphabet) frame (p .block .«soft_at» + p .block .clips .«left_soft») (p .block .clips .«right_soft»)
+
+-- its ecigarString
+abbrev pub table92 : Unit → (frame : List ℕ) → Placed → List ℕ
+table92 u frame p =
+    ecigarString (u .class) (p .block .length) (p .block .edits)
+    (offsetsOf (editsIn u frame p)) (lettersIn (u .alphabet) (editsIn u frame p)) (typesOf (editsIn u frame p))
+    (leftSoftClips u frame p) (rightSoftClips u frame p) (p .block .clips .«left_hard») (p .block .clips .«right_hard»)
+
+-- position u32, rcomp, read length u16, bases as letters, E-CIGAR length u16, E-CIGAR as ASCII
 unfoldable pub alignedBytes : Unit → (reference frame : List ℕ) → Placed → List ℕ
 alignedBytes u reference frame p =
     be 4 (p .position)
     ++ be 1 (p .block .rcomp)
     ++ be 2 (p .block .length)
     ++ basesText (u .class) (u .alphabet) frame reference (u .first) (p .position) (p .block)
-    ++ be 2 (length (ecigarText (u .class) (u .alphabet) frame (p .block)))
-    ++ ecigarText (u .class) (u .alphabet) frame (p .block)
+    ++ be 2 (length (table92 u frame p))
+    ++ table92 u frame p
 
 -- an unaligned segment has position 0, rcomp 0 and E-CIGAR length 0
 unfoldable pub unalignedBytes : Unit → (frame : List ℕ) → UnalignedBlock → List ℕ

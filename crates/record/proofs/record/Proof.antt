@@ -28,7 +28,7 @@ enum-known-planned-2 : tie.Need-enum-known-planned-2
 enum-known-planned-2 c = search needs
 
 settle-requires : tie.Need-settle-requires
-settle-requires c κs = let a = c .before .before .before .before .before .before .before .before .before .before .before .before .before .args in (line-ready (a .unit) (now (a .reference)) (now (a .symbols)) (now (a .counts)) (a .state) (now (a .line)) (c .before .before .before .before .before .read .ensures) (c .before .before .planned2 .given .1), number-fits (a .unit) (now (a .reference)) (now (a .symbols)) (now (a .counts)) (a .state) (c .before .before .before .before .before .before .before .refusal-of .ensures) (c .before .before .before .before .before .before .if1 .left))
+settle-requires c κs = let a = c .before .before .before .before .before .before .before .before .before .before .before .before .before .args in (line-ready (a .unit) (now (a .reference)) (now (a .symbols)) (now (a .counts)) (a .state) (c .before .before .before .before .before .before .before .refusal-of .ensures) (now (a .line)) (c .before .before .before .before .before .before .if1 .left) (c .before .before .before .before .before .read .ensures) (c .before .before .planned2 .given .1), number-fits (a .unit) (now (a .reference)) (now (a .symbols)) (now (a .counts)) (a .state) (c .before .before .before .before .before .before .before .refusal-of .ensures) (c .before .before .before .before .before .before .if1 .left))
 
 returns-2 : tie.Need-returns-2
 returns-2 c = rw (lent-accepted _ _ _ _ _ (c .before .before .before .before .before .before .before .refusal-of .ensures) _ _ (c .before .before .before .before .before .before .if1 .left) (c .before .before .before .before .before .read .ensures), c .before .before .planned .given .1) (c .refused2 .ensures, refl)

@@ -5,6 +5,7 @@ use lib.ListN.{length-append}
 use Rattle.frame.proofs.HexLaws.{length-be}
 use Rattle.writing.proofs.LayLaws.{laid-then, laid-be, length-laid}
 use Rattle.segment.specs.Segment.{alignedBytes}
+use Rattle.segment.proofs.WriteLaws.{ready-text}
 use Rattle.segment.proofs.write.write_aligned.Statement.{statement}
 use Rattle.segment.proofs.write.write_aligned.Tie as tie
 
@@ -31,14 +32,14 @@ put-u16-requires-2 c κs = let h = simp (length-append, length-be) at (c .before
 write-requires-2 : tie.Need-write-requires-2
 unfolding alignedBytes
 write-requires-2 c κs = let g = c .before .before .before .before .before .before .before .before .before .before .before .before .before .before .before .before .before .before .before .before .before .before .before .before .before .pre .0 in
-    ((g .few, g .framed), (g .sound, let h = simp (length-append, length-be) at (c .before .before .before .before .before .before .before .before .before .before .before .before .before .before .before .before .before .before .before .before .before .before .before .before .before .pre .1) in omega (arith, laid-be 4 _ (c .before .before .before .before .before .before .before .before .before .before .before .before .before .before .before .before .before .before .before .put-u32 .ensures) .0, laid-be 4 _ (c .before .before .before .before .before .before .before .before .before .before .before .before .before .before .before .before .before .before .before .put-u32 .ensures) .1, laid-be 1 _ (c .before .before .before .before .before .before .before .before .before .before .before .before .before .before .before .put-u8 .ensures) .0, laid-be 1 _ (c .before .before .before .before .before .before .before .before .before .before .before .before .before .before .before .put-u8 .ensures) .1, laid-be 2 _ (c .before .before .before .before .before .before .before .before .before .before .before .put-u16 .ensures) .0, laid-be 2 _ (c .before .before .before .before .before .before .before .before .before .before .before .put-u16 .ensures) .1, (c .before .before .before .before .before .before .before .write .ensures) .to, length-laid (c .before .before .before .before .before .before .before .write .ensures), laid-be 2 _ (c .before .before .before .put-u162 .ensures) .0, laid-be 2 _ (c .before .before .before .put-u162 .ensures) .1)))
+    ((g .few, g .framed), (g .sound, rw (ready-text g) (let h = simp (length-append, length-be) at (c .before .before .before .before .before .before .before .before .before .before .before .before .before .before .before .before .before .before .before .before .before .before .before .before .before .pre .1) in omega (arith, laid-be 4 _ (c .before .before .before .before .before .before .before .before .before .before .before .before .before .before .before .before .before .before .before .put-u32 .ensures) .0, laid-be 4 _ (c .before .before .before .before .before .before .before .before .before .before .before .before .before .before .before .before .before .before .before .put-u32 .ensures) .1, laid-be 1 _ (c .before .before .before .before .before .before .before .before .before .before .before .before .before .before .before .put-u8 .ensures) .0, laid-be 1 _ (c .before .before .before .before .before .before .before .before .before .before .before .before .before .before .before .put-u8 .ensures) .1, laid-be 2 _ (c .before .before .before .before .before .before .before .before .before .before .before .put-u16 .ensures) .0, laid-be 2 _ (c .before .before .before .before .before .before .before .before .before .before .before .put-u16 .ensures) .1, (c .before .before .before .before .before .before .before .write .ensures) .to, length-laid (c .before .before .before .before .before .before .before .write .ensures), laid-be 2 _ (c .before .before .before .put-u162 .ensures) .0, laid-be 2 _ (c .before .before .before .put-u162 .ensures) .1))))
 
 same-length : tie.Need-same-length
 same-length c = search needs
 
 returns : tie.Need-returns
 unfolding alignedBytes
-returns c = rw (← c .before .before .before .before .before .before .before .before .before .before .before .before .before .before .before .before .before .before .before .before .before .before .before .before .before .before .before .before .pre .0 .text) (laid-then (laid-then (laid-then (laid-then (laid-then (c .before .before .before .before .before .before .before .before .before .before .before .before .before .before .before .before .before .before .before .before .before .before .put-u32 .ensures) (c .before .before .before .before .before .before .before .before .before .before .before .before .before .before .before .before .before .before .put-u8 .ensures)) (c .before .before .before .before .before .before .before .before .before .before .before .before .before .before .put-u16 .ensures)) (c .before .before .before .before .before .before .before .before .before .before .write .ensures)) (c .before .before .before .before .before .before .put-u162 .ensures)) (c .before .before .write2 .ensures))
+returns c = let g = c .before .before .before .before .before .before .before .before .before .before .before .before .before .before .before .before .before .before .before .before .before .before .before .before .before .before .before .before .pre .0 in rw (← g .text, ← ready-text g) (laid-then (laid-then (laid-then (laid-then (laid-then (c .before .before .before .before .before .before .before .before .before .before .before .before .before .before .before .before .before .before .before .before .before .before .put-u32 .ensures) (c .before .before .before .before .before .before .before .before .before .before .before .before .before .before .before .before .before .before .put-u8 .ensures)) (c .before .before .before .before .before .before .before .before .before .before .before .before .before .before .put-u16 .ensures)) (c .before .before .before .before .before .before .before .before .before .before .write .ensures)) (c .before .before .before .before .before .before .put-u162 .ensures)) (c .before .before .write2 .ensures))
 
 pub write-aligned-spec : {M : Type 1} → statement M
 write-aligned-spec =
