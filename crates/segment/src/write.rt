@@ -3,12 +3,13 @@ use crate::Placed;
 use crate::Segment;
 use block::unaligned::UnalignedBlock;
 use unit::Unit;
-use writing::lay::put_u8;
+use writing::lay::put_bytes;
 use writing::lay::put_u16;
-use writing::lay::put_u32;
+ghost use mathlib.Core.Path.{_≡_};
+ghost use mathlib.Core.List.{_++_};
 ghost use Prim.Native.Nat.{_+_, _*_, _≤_};
 ghost use lib.ListN.{length};
-ghost use Rattle.frame.specs.Hex.{unhex};
+ghost use Rattle.frame.specs.Hex.{be, unhex};
 ghost use Rattle.writing.specs.Lay.{Laid};
 ghost use Rattle.segment.specs.Segment.{alignedBytes, unalignedBytes, segmentBytes};
 ghost use Rattle.segment.specs.code.Ready.{Ready, ReadyAligned, ReadyUnaligned};
@@ -33,6 +34,21 @@ pub fn write(
     }
 }
 
+// What stands before the bases: position, rcomp and read length.
+fn head(position: u32, rcomp: u32, bases: u32) -> [u8; 7]
+    ensures { λ r. ⌜ r ≡ be 4 position ++ be 1 rcomp ++ be 2 bases ⌝ }
+{
+    [
+        (position / 16_777_216 % 256) as u8,
+        (position / 65_536 % 256) as u8,
+        (position / 256 % 256) as u8,
+        (position % 256) as u8,
+        (rcomp % 256) as u8,
+        (bases / 256 % 256) as u8,
+        (bases % 256) as u8,
+    ]
+}
+
 fn write_aligned(
     out: &mut [u8],
     at: usize,
@@ -48,12 +64,11 @@ fn write_aligned(
     let block = p.block;
     let class = unit.class;
     let alphabet = unit.alphabet;
-    let a = put_u32(out, at, p.position);
-    let b = put_u8(out, a, block.rcomp);
-    let c = put_u16(out, b, block.length);
-    let d = bases::write(
+    let fields = head(p.position, block.rcomp, block.length);
+    let a = put_bytes(out, at, &fields);
+    let b = bases::write(
         out,
-        c,
+        a,
         reference,
         unit.first,
         alphabet,
@@ -62,8 +77,8 @@ fn write_aligned(
         class,
         block,
     );
-    let e = put_u16(out, d, p.text);
-    ecigar::text::write(out, e, line, class, alphabet, block)
+    let c = put_u16(out, b, p.text);
+    ecigar::text::write(out, c, line, class, alphabet, block)
 }
 
 fn write_unaligned(out: &mut [u8], at: usize, line: &[u8], unit: Unit, s: UnalignedBlock) -> usize
@@ -73,9 +88,8 @@ fn write_unaligned(out: &mut [u8], at: usize, line: &[u8], unit: Unit, s: Unalig
 {
     let start = s.at;
     let end = start + s.length as usize;
-    let a = put_u32(out, at, 0);
-    let b = put_u8(out, a, 0);
-    let c = put_u16(out, b, s.length);
-    let d = bases::put_letters(out, c, line, unit.alphabet, start, end);
-    put_u16(out, d, 0)
+    let fields = head(0, 0, s.length);
+    let a = put_bytes(out, at, &fields);
+    let b = bases::put_letters(out, a, line, unit.alphabet, start, end);
+    put_u16(out, b, 0)
 }

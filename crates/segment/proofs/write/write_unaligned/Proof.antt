@@ -1,54 +1,74 @@
--- `segment::write::write_unaligned` meets its contract: five pieces, each right behind the last. Assumes nothing.
-use Prim.Native.Nat.{_-_}
+-- `segment::write::write_unaligned` meets its contract: the head, the letters and no E-CIGAR, each right behind the last. Assumes nothing.
 use native.Mathlib.Omega.{arith}
 use denote.Ref.{now}
-use lib.ListN.{length, length-append}
+use lib.ListN.{length-append}
 use Rattle.frame.proofs.HexLaws.{length-unhex, length-be}
-use Rattle.writing.proofs.LayLaws.{laid-then, laid-be, length-laid}
-use Rattle.segment.proofs.WriteLaws.{so-many}
+use Rattle.writing.proofs.LayLaws.{laid-as, laid-then}
 use Rattle.bases.proofs.ReferenceLaws.{length-letters}
 use Rattle.segment.specs.Segment.{unalignedBytes}
+use Rattle.segment.proofs.WriteLaws.{room-behind, so-many}
 use borrow.Author.Needs.{needs}
 use Rattle.segment.proofs.write.write_unaligned.Statement.{statement}
 use Rattle.segment.proofs.write.write_unaligned.Tie as tie
+
+-- ---- from a call back to the one before
+
+abbrev at-head : tie.After-put-bytes → tie.After-head
+at-head c = c .before .before .before
+
+abbrev at-bytes : tie.After-put-letters → tie.After-put-bytes
+at-bytes c = c .before .before .before .before
+
+abbrev start : tie.After-head → tie.Start
+start c = c .before .before .before .before
+
+-- ----
 
 cast-end : tie.Need-cast-end
 cast-end c = search needs
 
 add-end : tie.Need-add-end
-add-end c = omega (arith, length-unhex (now (c .before .before .before .args .line)), c .before .before .before .pre .0 .framed)
+add-end c = let s = c .before .before .before in omega (arith, length-unhex (now (s .args .line)), s .pre .0 .framed)
 
-put-u32-requires : tie.Need-put-u32-requires
-unfolding unalignedBytes
-put-u32-requires c κs = let h = simp (length-append, length-be, length-letters) at (c .before .before .before .before .pre .1) in omega (arith)
+head-requires : tie.Need-head-requires
+head-requires c κs = search needs
 
-put-u8-requires : tie.Need-put-u8-requires
-unfolding unalignedBytes
-put-u8-requires c κs = let h = simp (length-append, length-be, length-letters) at (c .before .before .before .before .before .before .before .before .pre .1) in omega (arith, laid-be 4 _ (c .before .before .before .put-u32 .ensures) .0, laid-be 4 _ (c .before .before .before .put-u32 .ensures) .1)
+slice-aggregate-put-bytes : tie.Need-slice-aggregate-put-bytes
+slice-aggregate-put-bytes c = search needs
 
-put-u16-requires : tie.Need-put-u16-requires
+put-bytes-requires : tie.Need-put-bytes-requires
 unfolding unalignedBytes
-put-u16-requires c κs = let h = simp (length-append, length-be, length-letters) at (c .before .before .before .before .before .before .before .before .before .before .before .before .pre .1) in omega (arith, laid-be 4 _ (c .before .before .before .before .before .before .before .put-u32 .ensures) .0, laid-be 4 _ (c .before .before .before .before .before .before .before .put-u32 .ensures) .1, laid-be 1 _ (c .before .before .before .put-u8 .ensures) .0, laid-be 1 _ (c .before .before .before .put-u8 .ensures) .1)
+put-bytes-requires c κs =
+    let a = c .before .before in
+    let h = simp (length-append, length-be) at (start a .pre .1) in
+    rw (a .head .ensures) (simp (length-append, length-be) (omega arith))
 
 put-letters-requires : tie.Need-put-letters-requires
 unfolding unalignedBytes
-put-letters-requires c κs = let s = c .before .before .before .before .before .before .before .before .before .before .before .before .before .before .before .before .args .s in
-    (omega arith, rw (so-many (s .at) (s .length)) (let h = simp (length-append, length-be, length-letters) at (c .before .before .before .before .before .before .before .before .before .before .before .before .before .before .before .before .pre .1) in omega (arith, laid-be 4 _ (c .before .before .before .before .before .before .before .before .before .before .before .put-u32 .ensures) .0, laid-be 4 _ (c .before .before .before .before .before .before .before .before .before .before .before .put-u32 .ensures) .1, laid-be 1 _ (c .before .before .before .before .before .before .before .put-u8 .ensures) .0, laid-be 1 _ (c .before .before .before .before .before .before .before .put-u8 .ensures) .1, laid-be 2 _ (c .before .before .before .put-u16 .ensures) .0, laid-be 2 _ (c .before .before .before .put-u16 .ensures) .1)))
+put-letters-requires c κs =
+    let a = c .before .before .before in
+    let s = start (at-head a) in
+    (omega arith, rw (so-many (s .args .s .at) (s .args .s .length)) (room-behind _ (laid-as (at-head a .head .ensures) (a .put-bytes .ensures)) (s .pre .1) (simp (length-append, length-be, length-letters) (omega arith))))
 
-put-u16-requires-2 : tie.Need-put-u16-requires-2
+put-u16-requires : tie.Need-put-u16-requires
 unfolding unalignedBytes
-put-u16-requires-2 c κs = let s = c .before .before .before .before .before .before .before .before .before .before .before .before .before .before .before .before .before .before .before .before .args .s in
-    let l = rw (so-many (s .at) (s .length)) at (c .before .before .before .put-letters .ensures) in
-    let h = simp (length-append, length-be, length-letters) at (c .before .before .before .before .before .before .before .before .before .before .before .before .before .before .before .before .before .before .before .before .pre .1) in
-    omega (arith, laid-be 4 _ (c .before .before .before .before .before .before .before .before .before .before .before .before .before .before .before .put-u32 .ensures) .0, laid-be 4 _ (c .before .before .before .before .before .before .before .before .before .before .before .before .before .before .before .put-u32 .ensures) .1, laid-be 1 _ (c .before .before .before .before .before .before .before .before .before .before .before .put-u8 .ensures) .0, laid-be 1 _ (c .before .before .before .before .before .before .before .before .before .before .before .put-u8 .ensures) .1, laid-be 2 _ (c .before .before .before .before .before .before .before .put-u16 .ensures) .0, laid-be 2 _ (c .before .before .before .before .before .before .before .put-u16 .ensures) .1, simp length-letters at (l .to), length-laid l)
+put-u16-requires c κs =
+    let b = c .before .before .before in
+    let a = at-bytes b in
+    let s = start (at-head a) in
+    room-behind 2 (laid-then (laid-as (at-head a .head .ensures) (a .put-bytes .ensures)) (rw (so-many (s .args .s .at) (s .args .s .length)) at (b .put-letters .ensures))) (s .pre .1)
+    (simp (length-append, length-be) (omega arith))
 
 same-length : tie.Need-same-length
 same-length c = search needs
 
 returns : tie.Need-returns
 unfolding unalignedBytes
-returns c = let s = c .before .before .before .before .before .before .before .before .before .before .before .before .before .before .before .before .before .before .before .before .before .before .before .args .s in
-    laid-then (laid-then (laid-then (laid-then (c .before .before .before .before .before .before .before .before .before .before .before .before .before .before .before .before .before .before .put-u32 .ensures) (c .before .before .before .before .before .before .before .before .before .before .before .before .before .before .put-u8 .ensures)) (c .before .before .before .before .before .before .before .before .before .before .put-u16 .ensures)) (rw (so-many (s .at) (s .length)) at (c .before .before .before .before .before .before .put-letters .ensures))) (c .before .before .put-u162 .ensures)
+returns c =
+    let b = c .before .before .before .before .before .before in
+    let a = at-bytes b in
+    let s = start (at-head a) in
+    laid-then (laid-then (laid-as (at-head a .head .ensures) (a .put-bytes .ensures)) (rw (so-many (s .args .s .at) (s .args .s .length)) at (b .put-letters .ensures))) (c .before .before .put-u16 .ensures)
 
 pub write-unaligned-spec : {M : Type 1} → statement M
 write-unaligned-spec =
@@ -56,10 +76,10 @@ write-unaligned-spec =
     (tie.spec
     cast-end
     add-end
-    put-u32-requires
-    put-u8-requires
-    put-u16-requires
+    head-requires
+    slice-aggregate-put-bytes
+    put-bytes-requires
     put-letters-requires
-    put-u16-requires-2
+    put-u16-requires
     same-length
     returns)
