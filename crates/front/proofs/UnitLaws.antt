@@ -11,11 +11,9 @@ use Rattle.refusal.specs.Numbers.{fine}
 use Rattle.frame.specs.Line.{lineDigits, lineOf, lineOfBytes}
 use Rattle.frame.specs.Field.{bigAt}
 use Rattle.frame.specs.Hex.{unhex, be, Bytes}
-use Rattle.writing.specs.Lay.{Laid}
 use Rattle.frame.proofs.HexLaws.{byte-lt, length-be, bytes-be, bytes-append}
 use Rattle.frame.proofs.FieldLaws.{bigAt-lt}
 use Rattle.frame.proofs.LineLaws.{unhex-line, line-is-frame, frame-is-line}
-use Rattle.writing.proofs.LayLaws.{laid-as, laid-then, laid-room}
 use Rattle.unit.specs.Kinds.{kindUnit}
 use Rattle.unit.specs.Unit.{classP, classU, lastAlphabet, mostSegments, mostRecords, leastSegments, unitRefusal}
 use Rattle.unit.proofs.ValidLaws.{valid-is, valid-unit}
@@ -30,16 +28,6 @@ use Rattle.frame.proofs.StepLaws.{past-line, past-field, past-refusal, past-mat
 pub length-unit : (u : Unit) → length (unitBytes u) ≡ unitLineBytes
 unfolding unitBytes
 length-unit u = simp (length-append, length-be)
-
--- the two parts in which they are written
-pub unit-laid : {a b c : List ℕ} {at p r : ℕ} (u : Unit) → Laid a b at p (be 1 kindUnit ++ be 1 (u .class) ++ be 1 (u .alphabet) ++ be 1 (u .segments) ++ be 2 (u .sequence))
-    → Laid b c p r (be 4 (u .first) ++ be 4 (u .start) ++ be 4 (u .end) ++ be 2 (u .records)) → Laid a c at r (unitBytes u)
-unfolding unitBytes
-unit-laid u f g = laid-as (simp append-assoc) (laid-then f g)
-
-pub template-room : {a b : List ℕ} {at p : ℕ} (u : Unit) → Laid a b at p (be 1 kindUnit ++ be 1 (u .class) ++ be 1 (u .alphabet) ++ be 1 (u .segments) ++ be 2 (u .sequence))
-    → at + 2 * unitLineBytes ≤ length a → p + 2 * 14 ≤ length b
-template-room u f h = laid-room 6 28 f (simp (length-append, length-be)) (omega arith)
 
 pub bytes-unit : (u : Unit) → Bytes (unitBytes u)
 unfolding unitBytes

@@ -9,17 +9,10 @@ use frame::line::line_of;
 use unit::Unit;
 use unit::kind::Kind;
 use writing::lay::Wrote;
-use writing::lay::put_u8;
-use writing::lay::put_u16;
-use writing::lay::put_u32;
+use writing::lay::write_line;
 ghost use mathlib.Core.Path.{_≡_};
-ghost use mathlib.Core.List.{_++_};
-ghost use Prim.Native.Nat.{_+_, _*_, _≤_};
-ghost use lib.ListN.{length};
-ghost use Rattle.frame.specs.Hex.{unhex, be};
-ghost use Rattle.writing.specs.Lay.{Laid};
+ghost use Rattle.frame.specs.Hex.{unhex};
 ghost use Rattle.writing.specs.Whole.{wroteOf, lineInto};
-ghost use Rattle.unit.specs.Kinds.{kindUnit};
 ghost use Rattle.front.specs.UnitLine.{unitLine, unitClass, unitTemplate, unitEnds, unitBytes};
 
 // What a unit line says.
@@ -134,27 +127,32 @@ pub fn read(line: &[u8]) -> UnitLine
     read_class(line, c)
 }
 
-// Kind, class, alphabet, template segments and sequence id.
-fn put_template(out: &mut [u8], unit: Unit) -> usize
-    requires { ⌜ 2 * 6 ≤ length (now out) ⌝ }
-    ensures { λ r. ⌜ Laid (now (out .entry)) (now (out .exit)) 0 r (be 1 kindUnit ++ be 1 (unit .class) ++ be 1 (unit .alphabet) ++ be 1 (unit .segments) ++ be 2 (unit .sequence)) ⌝ }
+// Kind, class, alphabet, template segments, sequence id, position of the first lent reference base, AU start, AU end and record count.
+fn bytes_of(unit: Unit) -> [u8; UnitLine::BYTES]
+    ensures { λ r. ⌜ r ≡ unitBytes unit ⌝ }
 {
-    let a = put_u8(out, 0, Kind::UNIT);
-    let b = put_u8(out, a, unit.class);
-    let c = put_u8(out, b, unit.alphabet);
-    let d = put_u8(out, c, unit.segments);
-    put_u16(out, d, unit.sequence)
-}
-
-// The position of the first lent reference base, AU start and end, and the record count.
-fn put_places(out: &mut [u8], at: usize, unit: Unit) -> usize
-    requires { ⌜ at + 2 * 14 ≤ length (now out) ⌝ }
-    ensures { λ r. ⌜ Laid (now (out .entry)) (now (out .exit)) at r (be 4 (unit .first) ++ be 4 (unit .start) ++ be 4 (unit .end) ++ be 2 (unit .records)) ⌝ }
-{
-    let a = put_u32(out, at, unit.first);
-    let b = put_u32(out, a, unit.start);
-    let c = put_u32(out, b, unit.end);
-    put_u16(out, c, unit.records)
+    [
+        (Kind::UNIT % 256) as u8,
+        (unit.class % 256) as u8,
+        (unit.alphabet % 256) as u8,
+        (unit.segments % 256) as u8,
+        (unit.sequence / 256 % 256) as u8,
+        (unit.sequence % 256) as u8,
+        (unit.first / 16_777_216 % 256) as u8,
+        (unit.first / 65_536 % 256) as u8,
+        (unit.first / 256 % 256) as u8,
+        (unit.first % 256) as u8,
+        (unit.start / 16_777_216 % 256) as u8,
+        (unit.start / 65_536 % 256) as u8,
+        (unit.start / 256 % 256) as u8,
+        (unit.start % 256) as u8,
+        (unit.end / 16_777_216 % 256) as u8,
+        (unit.end / 65_536 % 256) as u8,
+        (unit.end / 256 % 256) as u8,
+        (unit.end % 256) as u8,
+        (unit.records / 256 % 256) as u8,
+        (unit.records % 256) as u8,
+    ]
 }
 
 // The unit line again, at the front of what is lent, or nothing.
@@ -162,11 +160,6 @@ pub fn write(out: &mut [u8], unit: Unit) -> Wrote
     ensures { λ r. ⌜ r ≡ wroteOf (now (out .entry)) (unitBytes unit) ⌝ }
     ensures { λ _. ⌜ now (out .exit) ≡ lineInto (now (out .entry)) (unitBytes unit) ⌝ }
 {
-    if out.len() <= 2 * UnitLine::BYTES {
-        return Wrote::NoRoom;
-    }
-    let next = put_template(out, unit);
-    let end = put_places(out, next, unit);
-    out[end] = Line::END;
-    Wrote::Line(end + 1)
+    let bytes = bytes_of(unit);
+    write_line(out, &bytes)
 }

@@ -24,36 +24,73 @@ room : (s : tie.Start)
 unfolding listedBytes
 room s = rw zero-add (s .pre .1)
 
+-- the place of each call, from that of the next
+abbrev start-of : tie.After-put-head → tie.Start
+start-of h = h .before .before .before .before .before
+
+abbrev head-of : tie.After-put-link → tie.After-put-head
+head-of l = l .before .before .before .before
+
+abbrev link-of : tie.After-write → tie.After-put-link
+link-of w = w .before .before .before .before
+
 put-head-requires : tie.Need-put-head-requires
-put-head-requires c κs = let h = simp length-append at (room (c .before .before .before .before)) in omega arith
+put-head-requires c κs = let r = simp length-append at (room (c .before .before .before .before)) in omega arith
 
 put-link-requires : tie.Need-put-link-requires
-put-link-requires c κs = let h = simp length-append at (room (c .before .before .before .before .before .before .before .before)) in omega (arith, c .before .before .before .put-head .ensures .to, length-laid (c .before .before .before .put-head .ensures))
+put-link-requires c κs =
+    let h = c .before .before .before in
+    let r = simp length-append at (room (start-of h)) in
+    omega (arith, h .put-head .ensures .to, length-laid (h .put-head .ensures))
 
 write-requires : tie.Need-write-requires
-write-requires c κs = let h = simp length-append at (room (c .before .before .before .before .before .before .before .before .before .before .before .before)) in (c .before .before .before .before .before .before .before .before .before .before .before .before .pre .0 .first, omega (arith, c .before .before .before .before .before .before .before .put-head .ensures .to, length-laid (c .before .before .before .before .before .before .before .put-head .ensures), c .before .before .before .put-link .ensures .to, length-laid (c .before .before .before .put-link .ensures)))
+write-requires c κs =
+    let l = c .before .before .before in
+    let h = head-of l in
+    let two = laid-then (h .put-head .ensures) (l .put-link .ensures) in
+    let r = simp length-append at (room (start-of h)) in
+    let n = simp length-append at (two .to) in
+    (start-of h .pre .0 .first, omega (arith, n, length-laid two))
 
 sub-write : tie.Need-sub-write
-sub-write c = let w = laid-then (laid-then (c .before .before .before .before .before .before .before .before .before .before .put-head .ensures) (c .before .before .before .before .before .before .put-link .ensures)) (c .before .before .write .ensures) in omega (arith, room-next _ w (room (c .before .before .before .before .before .before .before .before .before .before .before .before .before .before .before)))
+sub-write c =
+    let w = c .before .before in
+    let l = link-of w in
+    let h = head-of l in
+    omega (arith, room-next _ (laid-then (laid-then (h .put-head .ensures) (l .put-link .ensures)) (w .write .ensures)) (room (start-of h)))
 
 part-write-start : tie.Need-part-write-start
-part-write-start c = let w = laid-then (laid-then (c .before .before .before .before .before .before .before .before .before .before .put-head .ensures) (c .before .before .before .before .before .before .put-link .ensures)) (c .before .before .write .ensures) in omega (arith, room-next _ w (room (c .before .before .before .before .before .before .before .before .before .before .before .before .before .before .before)))
-
-part-write-end : tie.Need-part-write-end
-part-write-end c = search needs
+part-write-start c =
+    let w = c .before .before in
+    let l = link-of w in
+    let h = head-of l in
+    omega (arith, room-next _ (laid-then (laid-then (h .put-head .ensures) (l .put-link .ensures)) (w .write .ensures)) (room (start-of h)))
 
 write-requires-2 : tie.Need-write-requires-2
-write-requires-2 c κs = let w = laid-then (laid-then (c .before .before .before .before .before .before .before .before .before .before .before .put-head .ensures) (c .before .before .before .before .before .before .before .put-link .ensures)) (c .before .before .before .write .ensures) in (c .before .before .before .before .before .before .before .before .before .before .before .before .before .before .before .before .pre .0 .second, omega (arith, room-next _ w (room (c .before .before .before .before .before .before .before .before .before .before .before .before .before .before .before .before))))
+write-requires-2 c κs =
+    let w = c .before .before .before in
+    let l = link-of w in
+    let h = head-of l in (
+      start-of h .pre .0 .second,
+      omega (arith, room-next _ (laid-then (laid-then (h .put-head .ensures) (l .put-link .ensures)) (w .write .ensures)) (room (start-of h))),
+    )
 
 add-result : tie.Need-add-result
-add-result c = let w = laid-then (laid-then (c .before .before .before .before .before .before .before .before .before .before .before .before .before .before .put-head .ensures) (c .before .before .before .before .before .before .before .before .before .before .put-link .ensures)) (c .before .before .before .before .before .before .write .ensures) in omega (arith, room-next _ w (room (c .before .before .before .before .before .before .before .before .before .before .before .before .before .before .before .before .before .before .before)), length-laid w, c .before .before .write2 .ensures .to)
-
-same-length : tie.Need-same-length
-same-length c = search needs
+add-result c =
+    let w = c .before .before .before .before .before .before in
+    let l = link-of w in
+    let h = head-of l in
+    let three = laid-then (laid-then (h .put-head .ensures) (l .put-link .ensures)) (w .write .ensures) in
+    omega (arith, room-next _ three (room (start-of h)), length-laid three, c .before .before .write2 .ensures .to)
 
 returns : tie.Need-returns
 unfolding listedBytes
-returns c = let w = laid-then (laid-then (c .before .before .before .before .before .before .before .before .before .before .before .before .before .before .put-head .ensures) (c .before .before .before .before .before .before .before .before .before .before .put-link .ensures)) (c .before .before .before .before .before .before .write .ensures) in laid-then w (laid-rest _ _ _ (omega (arith, room-next _ w (room (c .before .before .before .before .before .before .before .before .before .before .before .before .before .before .before .before .before .before .before)))) (c .before .before .write2 .ensures))
+returns c =
+    let w = c .before .before .before .before .before .before in
+    let l = link-of w in
+    let h = head-of l in
+    let three = laid-then (laid-then (h .put-head .ensures) (l .put-link .ensures)) (w .write .ensures) in
+    laid-then three (laid-rest _ _ _ (omega (arith, room-next _ three (room (start-of h)))) (c .before .before .write2 .ensures))
 
 pub write-spec : {M : Type 1} → statement M
 write-spec =
@@ -64,8 +101,8 @@ write-spec =
     write-requires
     sub-write
     part-write-start
-    part-write-end
+    (λ c. search needs)
     write-requires-2
     add-result
-    same-length
+    (λ c. search needs)
     returns)
