@@ -173,16 +173,6 @@ unfolding be
 be-add zero k n = rw zero-add
 be-add (suc j) k n = rw (suc-add, be-add j k n, div-div-eq-div-mul, ← pow-add, add-comm k j)
 
--- a number of more than four bytes is laid by its low ones
-pub be-low : (n : ℕ) → be 4 (n % 4294967296) ≡ be 4 n
-unfolding be
-be-low n =
-    let a : n % 4294967296 / 16777216 % 256 ≡ n / 16777216 % 256 = omega arith in
-    let b : n % 4294967296 / 65536 % 256 ≡ n / 65536 % 256 = omega arith in
-    let c : n % 4294967296 / 256 % 256 ≡ n / 256 % 256 = omega arith in
-    let d : n % 4294967296 / 1 % 256 ≡ n / 1 % 256 = omega arith in
-    cc
-
 -- bytes behind bytes
 pub bytes-append : (xs ys : List ℕ) → Bytes xs → Bytes ys → Bytes (xs ++ ys)
 unfolding Bytes

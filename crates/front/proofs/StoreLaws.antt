@@ -21,7 +21,7 @@ left-start t p vs = record { size = refl; text = refl; long = refl }
 
 -- one value is stored
 pub left-store : {t t₀ : List ℕ} {p p₀ q v w : ℕ} {vs zs vs₀ : List ℕ} → Left t p zs t₀ p₀ vs₀ → zs ≡ w ∷ vs → v ≡ w → q ≡ p + 1 → Left (set t p v) q vs t₀ p₀ vs₀
-left-store {t} {t₀} {p} {p₀} {q} {v} {w} {vs} r e f g =
+left-store {t} {t₀} {p} {p₀} {q} {v} r e f g =
     record {
       size = omega (arith, r .size, ap length e);
       text = rw (g, add-one, f, ← r .text, e);

@@ -270,7 +270,7 @@ record Marks (k : Keep) (p a z : List ℕ) : Type 0 where
 
 alike : {j k : Keep} {p a z : List ℕ} → places j ≡ places k → Marks k p a z → Marks j p a z
 unfolding places
-alike {j} {k} e m = record { pre = m .pre; post = m .post; last-at = m .last-at; last = m .last ∙ (cc); first-at = m .first-at; first = m .first ∙ (cc); kept = m .kept ∙ (cc) }
+alike e m = record { pre = m .pre; post = m .post; last-at = m .last-at; last = m .last ∙ (cc); first-at = m .first-at; first = m .first ∙ (cc); kept = m .kept ∙ (cc) }
 
 trace : {xs : List ℕ} → Found xs → (k : Keep) (p a z : List ℕ) → Marks k p a z → 0 < length a → k .seen ≡ k .kept → k .done ≡ false → length p + length xs ≤ mostBytes
     → Marks (keepAll k xs) (p ++ kept xs) a (lastFrom z (linesOf (kept xs)))

@@ -3,9 +3,7 @@
 use mathlib.Core.Path.{_≡_}
 use mathlib.Core.List.{List}
 use Prim.Native.Nat.{ℕ}
-use lib.ListN.{length}
 use Rattle.frame.proofs.Unique.{once}
-use Rattle.listing.specs.Lines.{kept}
 use Rattle.kept.specs.Keep.{fresh, keepByte, keepAll}
 use Rattle.kept.specs.declared.keep.Keep.{Keep}
 
@@ -17,6 +15,3 @@ byte-once before b = once
 
 pub over-once : (before : Keep) (piece : List ℕ) {k k′ : Keep} → k ≡ keepAll before piece → k′ ≡ keepAll before piece → k ≡ k′
 over-once before piece = once
-
-pub kept-once : (found : List ℕ) {n n′ : ℕ} → n ≡ length (kept found) → n′ ≡ length (kept found) → n ≡ n′
-kept-once found = once

@@ -3,7 +3,6 @@ use frame::line::Line;
 ghost use mathlib.Core.Path.{_≡_};
 ghost use Prim.Native.Nat.{_+_, _<_, _≤_};
 ghost use lib.ListN.{length};
-ghost use Rattle.listing.specs.Lines.{kept as keptOf};
 ghost use Rattle.kept.specs.Keep.{mostBytes, fresh, keptNoMore as stoppedAt, lineKept, passedBy, keepByte, keepAll};
 ghost use Rattle.kept.specs.Run.{keepRun, RunEnd};
 
@@ -153,12 +152,4 @@ fn run_end(piece: &[u8], from: usize) -> usize
         i += 1;
     }
     i
-}
-
-// How many bytes of a found file are kept, where all of it is at hand.
-pub fn kept(found: &[u8]) -> usize
-    ensures { λ r. ⌜ r ≡ length (keptOf (now (found .entry))) ⌝ }
-{
-    let k = Keep::new().over(found);
-    k.kept
 }

@@ -2,8 +2,7 @@
 -- Assumes nothing.
 use mathlib.Core.Path.{_≡_, ap, _∙_}
 use mathlib.Core.List.{List}
-use Prim.Native.Nat.{ℕ, _-_}
-use lib.ListN.{length}
+use Prim.Native.Nat.{ℕ}
 use denote.Ref.{RefT, now}
 use Rattle.frame.specs.Hex.{unhex}
 use Rattle.frame.specs.Field.{fieldAt}
@@ -21,12 +20,6 @@ front-once line p q = once p q
 -- the field, and the reader that is lent
 pub field-once : (r : Reader) (w : Width) {x y : Field} {after after′ : Reader} → x ≡ fieldAt (widthBytes w) (unhex (now (r .0))) (r .1) → y ≡ fieldAt (widthBytes w) (unhex (now (r .0))) (r .1) → after ≡ further r x → after′ ≡ further r y → (x ≡ y) × (after ≡ after′)
 field-once r w p q f g = (once p q, once (f ∙ ap (further r) (once p q)) g)
-
-pub place-once : (r : Reader) {x y : ℕ} → x ≡ r .1 → y ≡ r .1 → x ≡ y
-place-once r p q = once p q
-
-pub left-once : (r : Reader) {x y : ℕ} → x ≡ length (unhex (now (r .0))) - r .1 → y ≡ length (unhex (now (r .0))) - r .1 → x ≡ y
-left-once r p q = once p q
 
 -- `head::read`
 pub head-once : (line : List ℕ) {x y : Head} → x ≡ recordHead (unhex line) → y ≡ recordHead (unhex line) → x ≡ y

@@ -5,8 +5,6 @@ pub mod head;
 use frame::field::Cursor;
 use frame::field::Field;
 ghost use mathlib.Core.Path.{_≡_};
-ghost use Prim.Native.Nat.{_-_};
-ghost use lib.ListN.{length};
 ghost use Rattle.frame.specs.Hex.{unhex};
 ghost use Rattle.frame.specs.Field.{fieldAt};
 ghost use Rattle.reader.specs.Reading.{widthBytes, behind, atFront, further};
@@ -42,17 +40,6 @@ fn place_behind(f: Field, at: usize) -> usize
     }
 }
 
-// The bytes of the frame from a place on.
-fn left_from(line: &[u8], at: usize) -> usize
-    ensures { λ r. ⌜ r ≡ length (unhex (now (line .entry))) - at ⌝ }
-{
-    let bytes = line.len() / 2;
-    if bytes < at {
-        return 0;
-    }
-    bytes - at
-}
-
 impl<'a> Reader<'a> {
     // At the front of a line.
     pub fn front(line: &'a [u8]) -> Reader<'a>
@@ -69,19 +56,5 @@ impl<'a> Reader<'a> {
         let f = field_at(self.0, at, w);
         self.1 = place_behind(f, at);
         f
-    }
-
-    // How many bytes are read.
-    pub fn place(self) -> usize
-        ensures { λ n. ⌜ n ≡ self .entry .1 ⌝ }
-    {
-        self.1
-    }
-
-    // How many bytes are left.
-    pub fn left(self) -> usize
-        ensures { λ n. ⌜ n ≡ length (unhex (now (self .entry .0))) - self .entry .1 ⌝ }
-    {
-        left_from(self.0, self.1)
     }
 }

@@ -1,7 +1,6 @@
 // The lines of a listing behind its first, gathered as they are made: one call a line of the unit file.
 use decoder::Added;
 use decoder::turn;
-use listing::close;
 use opening::files::FrontRead;
 use opening::files::OpenFiles;
 use program::sink::Sink;
@@ -11,7 +10,6 @@ use stream::source::pass_lines;
 use stream::source::take;
 use unit::State;
 use unit::Unit;
-use writing::lay::Wrote;
 
 // How far a listing has come.
 pub struct UnderWay {

@@ -1,6 +1,5 @@
 -- The law of a unit's refusal: nothing, or a number of the table but 17.
 -- Assumes nothing.
-use Prim.Native.Nat.{ℕ}
 use lib.Dec.{ltb, lit<}
 use Rattle.refusal.specs.Numbers.{FineOrEarly}
 use Rattle.frame.proofs.Tests.{one-of}

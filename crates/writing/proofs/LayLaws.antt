@@ -110,7 +110,7 @@ rest-from l p e = rw e (rest-start l p _)
 
 -- one piece is written
 pub rest-put : {l m l₀ : List ℕ} {p q p₀ : ℕ} {xs ys zs xs₀ : List ℕ} → Rest l p zs l₀ p₀ xs₀ → zs ≡ xs ++ ys → Laid l m p q xs → Rest m q ys l₀ p₀ xs₀
-rest-put {l} {m} {l₀} {p} {q} {p₀} {xs} {ys} {zs} {xs₀} r e f =
+rest-put {l} {m} {l₀} {p} {q} {p₀} {xs} {ys} r e f =
     record {
       size = omega (arith, f .to, r .size, ap length e, length-append xs ys);
       text = rw (f .holds) (lay-lay l p xs q ys (f .to) ∙ rw (← e) (r .text));
