@@ -7,10 +7,9 @@ use mathlib.Core.List.{List, [], _∷_}
 use Prim.Native.Nat.{ℕ, zero, suc, _+_, _*_, _/_, _%_, _<_, _≤_}
 use native.Mathlib.Nat.{zero-add}
 use native.Mathlib.Omega.{arith}
-use borrow.Author.Tests.{ltb-true, eq-eqb, ne-eqb, eqb-true, leb-true, leb-false}
+use borrow.Author.Tests.{ltb-true, leb-true, leb-false}
 use lib.Dec.{eqb, ltb, leb, lit<}
-use lib.ListN.{length, getD, List·getD-eq-default, drop, drop-of-length-le}
-use lib.Seq.{drop-cons}
+use lib.ListN.{length, getD, List·getD-eq-default}
 use Rattle.frame.specs.Hex.{glyph, hexOf}
 use Rattle.frame.proofs.Tests.{by-test, false-true, one-of}
 use Rattle.alphabet.specs.Table35.{S₀, S₁, lettersOf, letterN, sizeOf, letterOf, codeOfN}
@@ -59,10 +58,6 @@ inside alphabet index h =
 pub outside : (alphabet index : ℕ) → sizeOf alphabet ≤ index → letterOf alphabet index ≡ 0
 unfolding sizeOf letterOf
 outside alphabet index h = List·getD-eq-default (lettersOf alphabet) 0 h
-
--- a letter of the alphabet is a real letter
-pub letter-real : (alphabet symbol : ℕ) → symbol < sizeOf alphabet → 0 < letterOf alphabet symbol
-letter-real alphabet symbol h = inside alphabet symbol h .some
 
 -- so every index has a byte
 pub letter-byte : (alphabet index : ℕ) → letterOf alphabet index < 256

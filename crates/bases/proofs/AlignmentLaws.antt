@@ -6,38 +6,22 @@ use mathlib.Core.Logic.{_⊎_, inl, inr, ⊎-elim}
 use mathlib.Core.List.{List, [], _∷_, _++_}
 use native.Mathlib.Omega.{arith}
 use native.Mathlib.Nat.{add-zero}
-use borrow.Author.Tests.{ltb-true, ltb-false, leb-false, eqb-true, eqb-false}
-use lib.Dec.{ltb, leb, eqb}
+use borrow.Author.Tests.{ltb-true, ltb-false, eqb-true, eqb-false}
+use lib.Dec.{ltb, eqb}
 use lib.ListN.{length, getD, length-append, List·getD-append}
 use lib.Seq.{getD-append-add}
-use Rattle.refusal.specs.Numbers.{fine, symbolOut}
+use Rattle.refusal.specs.Numbers.{fine, firstRefusal}
 use Rattle.frame.proofs.HexLaws.{by-test}
 use Rattle.alphabet.specs.Table35.{sizeOf, letterOf}
 use Rattle.edits.specs.declared.edit.Edit.{Edit}
 use Rattle.edits.specs.Edits.{deletion, nextOffset, Sound, takenFrom}
-use Rattle.edits.proofs.EditLaws.{accepted, sound-head, sound-tail, next-deletion, next-other, next-least, next-most, symbol-inside, sound-accepted}
-use Rattle.alphabet.proofs.AlphabetLaws.{letter-real}
+use Rattle.edits.proofs.EditLaws.{sound-head, sound-tail, next-deletion, next-other, next-least, next-most, symbol-inside, sound-accepted}
 use Rattle.bases.specs.declared.places.Places.{Places}
-use Rattle.bases.specs.Reference.{isLent, lentSymbol, baseAt, baseRefusal, firstRefusal, matchedBases, matchRefusal}
-use Rattle.bases.specs.Bases.{R, r, pastEdit, editBases, basesFrom, refusalFrom, pastAll}
+use Rattle.bases.specs.Reference.{baseAt, baseRefusal, matchedBases, matchRefusal}
+use Rattle.bases.specs.Bases.{R, r, pastEdit, editBases, basesFrom, refusalFrom}
 use Rattle.bases.specs.Alignment.{UnderMatch, OfEdit}
 use Rattle.bases.proofs.ReferenceLaws.{length-matched}
 use Rattle.bases.proofs.BasesLaws.{past-read, past-reference, edit-none, edit-letter}
-
--- ---- both pointers behind the last base
-
-pub read-ends : (mapped : ℕ) (p : Places) (es : List Edit) → r (pastAll mapped p es) ≡ mapped
-unfolding pastAll
-read-ends mapped p [] = refl
-read-ends mapped p (e ∷ es) = read-ends mapped (pastEdit e p) es
-
-pub reference-ends : (mapped : ℕ) (p : Places) (es : List Edit) → R (pastAll mapped p es) ≡ R p + takenFrom mapped (r p) es
-unfolding pastAll takenFrom
-reference-ends mapped p [] = refl
-reference-ends mapped p (e ∷ es) =
-    reference-ends mapped (pastEdit e p) es
-    ∙ rw (past-read e p, past-reference e p)
-    (omega arith)
 
 -- ---- an edit's bases, with the match before it
 
@@ -201,32 +185,11 @@ from-somewhere mapped symbols p (e ∷ es) i s h l =
 
 -- ---- refusal 10 of the reference
 
--- a base that is not refused is a real letter
-pub base-real : (alphabet : ℕ) (reference : List ℕ) (first position : ℕ) → baseRefusal alphabet reference first position ≡ fine → 0 < baseAt alphabet reference first position
-unfolding baseRefusal baseAt
-base-real alphabet reference first position z =
-    by-test (isLent reference first position)
-    (λ t.
-    by-test (leb (sizeOf alphabet) (lentSymbol reference first position))
-    (λ u. let y = simp (t, u) at z in absurd (omega arith))
-    (λ u. rw t (letter-real alphabet (lentSymbol reference first position) (leb-false (sizeOf alphabet) (lentSymbol reference first position) u))))
-    (λ t. rw t (omega arith))
-
 first-left : (a b : ℕ) → firstRefusal a b ≡ fine → a ≡ fine
 first-left a b z = by-test (eqb a fine) (λ t. eqb-true a fine t) (λ t. simp t at z)
 
 first-right : (a b : ℕ) → firstRefusal a b ≡ fine → b ≡ fine
 first-right a b z = by-test (eqb a fine) (λ t. simp t at z) (λ t. absurd (eqb-false a fine t (simp t at z)))
-
--- 0 or 10, and nothing else
-base-out : (alphabet : ℕ) (reference : List ℕ) (first position : ℕ) → (baseRefusal alphabet reference first position ≡ fine → ⊥) → baseRefusal alphabet reference first position ≡ symbolOut
-unfolding baseRefusal
-base-out alphabet reference first position z =
-    by-test (isLent reference first position)
-    (λ t.
-    by-test (leb (sizeOf alphabet) (lentSymbol reference first position))
-    (λ u. simp (t, u)) (λ u. absurd (z (simp (t, u)))))
-    (λ t. absurd (z (simp t)))
 
 module _ (alphabet : ℕ) (reference : List ℕ) (first : ℕ) where
   match-fine : (position n k : ℕ) → matchRefusal alphabet reference first position n ≡ fine → k < n → baseRefusal alphabet reference first (position + k) ≡ fine
@@ -236,17 +199,6 @@ module _ (alphabet : ℕ) (reference : List ℕ) (first : ℕ) where
   match-fine position (suc n) (suc k) z h =
       let e : position + suc k ≡ position + 1 + k = omega arith in
       rw e (match-fine (position + 1) n k (first-right (baseRefusal alphabet reference first position) _ z) (omega arith))
-
-  match-out : (position n : ℕ) → (matchRefusal alphabet reference first position n ≡ fine → ⊥) → (k : ℕ) × ((k < n) × (baseRefusal alphabet reference first (position + k) ≡ symbolOut))
-  unfolding matchRefusal
-  match-out position zero z = absurd (z refl)
-  match-out position (suc n) z =
-      by-test (eqb (baseRefusal alphabet reference first position) fine)
-      (λ t.
-      let w = match-out (position + 1) n (λ y. z (simp t y)) in
-      let e : position + suc (w .0) ≡ position + 1 + w .0 = omega arith in
-      (suc (w .0), (omega (arith, w .1 .0), rw e (w .1 .1))))
-      (λ t. (0, (omega arith, rw (add-zero position) (base-out alphabet reference first position (eqb-false (baseRefusal alphabet reference first position) fine t)))))
 
 module _ (alphabet : ℕ) (reference : List ℕ) (first mapped : ℕ) where
   -- where the reference is not refused, no base under a match is
@@ -259,24 +211,6 @@ module _ (alphabet : ℕ) (reference : List ℕ) (first mapped : ℕ) where
       (λ w. under-fine (pastEdit e p) es i position (first-right (matchRefusal alphabet reference first (R p) (e .offset - r p)) (refusalFrom alphabet reference first mapped (pastEdit e p) es) z) w)
       u
 
-  -- where it is refused, a lent byte outside the alphabet stands under a match
-  pub out-under : (p : Places) (es : List Edit) → (refusalFrom alphabet reference first mapped p es ≡ fine → ⊥)
-      → (i : ℕ) × ((position : ℕ) × (UnderMatch mapped p es i position × (baseRefusal alphabet reference first position ≡ symbolOut)))
-  unfolding refusalFrom UnderMatch
-  out-under p [] z =
-      let w = match-out alphabet reference first (R p) (mapped - r p) z in
-      let k : r p + w .0 - r p ≡ w .0 = omega arith in
-      (r p + w .0, (R p + w .0, (record { from = omega arith; until = omega (arith, w .1 .0); at = rw k }, w .1 .1)))
-  out-under p (e ∷ es) z =
-      by-test (eqb (matchRefusal alphabet reference first (R p) (e .offset - r p)) fine)
-      (λ t.
-      let w = out-under (pastEdit e p) es (λ y. z (simp t y)) in
-      (w .0, (w .1 .0, (inr (w .1 .1 .0), w .1 .1 .1))))
-      (λ t.
-      let w = match-out alphabet reference first (R p) (e .offset - r p) (eqb-false (matchRefusal alphabet reference first (R p) (e .offset - r p)) fine t) in
-      let k : r p + w .0 - r p ≡ w .0 = omega arith in
-      (r p + w .0, (R p + w .0, (inl (record { from = omega arith; until = omega (arith, w .1 .0); at = rw k }), w .1 .1))))
-
 -- an accepted edit's symbol is inside the alphabet
 pub edit-inside : (mapped symbols next : ℕ) (es : List Edit) (i : ℕ) (d : Edit) → Sound mapped symbols next es → OfEdit es i d → d .symbol < symbols
 unfolding OfEdit
@@ -286,12 +220,3 @@ edit-inside mapped symbols next (e ∷ es) i d s u =
     (λ w. rw (ap (λ (x : Edit). x .symbol) (w .0)) at (symbol-inside mapped symbols next e (sound-head mapped symbols next e es s) (w .1 .0)))
     (λ w. edit-inside mapped symbols (nextOffset e) es i d (sound-tail mapped symbols next e es s) w)
     u
-
--- every mapped base is a real letter
-pub mapped-real : (alphabet : ℕ) (reference : List ℕ) (first mapped : ℕ) (p : Places) (es : List Edit) (i : ℕ) → Sound mapped (sizeOf alphabet) (r p) es → refusalFrom alphabet reference first mapped p es ≡ fine → r p ≤ i → i < mapped
-    → 0 < getD (basesFrom alphabet reference first mapped p es) (i - r p) 0
-mapped-real alphabet reference first mapped p es i s z h l =
-    ⊎-elim
-    (λ w. rw (match-at alphabet reference first mapped p es i (w .0) s (w .1)) (base-real alphabet reference first (w .0) (under-fine alphabet reference first mapped p es i (w .0) z (w .1))))
-    (λ w. rw (edit-at alphabet reference first mapped p es i (w .0) s (w .1)) (letter-real alphabet (w .0 .symbol) (edit-inside mapped (sizeOf alphabet) (r p) es i (w .0) s (w .1))))
-    (from-somewhere mapped (sizeOf alphabet) p es i s h l)

@@ -1,4 +1,4 @@
--- The laws of a whole read whose block was accepted: its length, where each of its letters comes from, and that each is a real letter.
+-- The laws of a whole read whose block was accepted: its length, and where each of its letters comes from.
 -- Assumes nothing.
 use Prim.Native.Nat.{ℕ, zero, suc, _+_, _-_, _<_}
 use mathlib.Core.Path.{_≡_, _∙_}
@@ -6,27 +6,18 @@ use mathlib.Core.Logic.{_⊎_}
 use mathlib.Core.List.{List, _++_}
 use native.Mathlib.Omega.{arith}
 use native.Mathlib.Nat.{sub-zero, add-zero}
-use borrow.Author.Tests.{ltb-true, ltb-false}
-use lib.Dec.{ltb}
 use lib.ListN.{length, getD, length-append, List·getD-append}
-use Rattle.refusal.specs.Numbers.{fine}
-use Rattle.frame.proofs.HexLaws.{by-test}
 use Rattle.alphabet.specs.Table35.{sizeOf, letterOf}
 use Rattle.edits.specs.declared.edit.Edit.{Edit}
 use Rattle.edits.specs.declared.Block.{Block}
-use Rattle.edits.specs.Edits.{editsAt, takenFrom}
-use Rattle.edits.specs.Lengths.{softBases, mappedLength}
+use Rattle.edits.specs.Edits.{editsAt}
+use Rattle.edits.specs.Lengths.{mappedLength}
 use Rattle.bases.specs.Reference.{baseAt}
-use Rattle.bases.specs.Bases.{R, beginning, pastAll, lettersAt, mappedBases, referenceRefusal, basesText}
+use Rattle.bases.specs.Bases.{beginning, lettersAt, mappedBases, basesText}
 use Rattle.bases.specs.Alignment.{UnderMatch, OfEdit, Acceptable}
 use Rattle.bases.proofs.ReferenceLaws.{length-letters}
 use Rattle.bases.proofs.BasesLaws.{length-text}
-use Rattle.bases.proofs.AlignmentLaws.{reference-ends, length-bases, getD-back, match-at, edit-at, from-somewhere, under-most, edit-most, mapped-real}
-use Rattle.alphabet.proofs.AlphabetLaws.{letter-real}
-
--- pointer R ends behind the reference positions that the edits take
-pub reference-taken : (mapped position : ℕ) (es : List Edit) → R (pastAll mapped (beginning position) es) ≡ position + takenFrom mapped 0 es
-reference-taken mapped position es = reference-ends mapped (beginning position) es
+use Rattle.bases.proofs.AlignmentLaws.{length-bases, getD-back, match-at, edit-at, from-somewhere, under-most, edit-most}
 
 pub getD-letters : (alphabet : ℕ) (s : List ℕ) (at n i : ℕ) → i < n → getD (lettersAt alphabet s at n) i 0 ≡ letterOf alphabet (getD s (at + i) 0)
 unfolding lettersAt
@@ -103,28 +94,3 @@ module _ (class alphabet : ℕ) (frame reference : List ℕ) (first position : �
       let k : s .clips .«left_soft» + mappedLength (s .length) (s .clips) + i - length (left ++ mapped) ≡ i = omega (arith, mapped-length) in
       getD-back (left ++ mapped) right (s .clips .«left_soft» + mappedLength (s .length) (s .clips) + i) (omega (arith, mapped-length))
       ∙ rw k (getD-letters alphabet frame (s .«soft_at» + s .clips .«left_soft») (s .clips .«right_soft») i h)
-
-  -- every letter is a real one, where neither the reference nor a soft-clipped base is refused by 10
-  pub read-real : referenceRefusal class alphabet frame reference first position (mappedLength (s .length) (s .clips)) (s .edits) (s .«edits_at») ≡ fine
-      → ((i : ℕ) → i < softBases (s .clips) → getD frame (s .«soft_at» + i) 0 < sizeOf alphabet)
-      → (i : ℕ) → i < s .length → 0 < getD (basesText class alphabet frame reference first position s) i 0
-  read-real z soft i h =
-      let mapped = mappedLength (s .length) (s .clips) in
-      by-test (ltb i (s .clips .«left_soft»))
-      (λ t. let l = ltb-true i (s .clips .«left_soft») t in rw (base-of-left i l) (letter-real alphabet _ (soft i (omega arith))))
-      (λ t.
-      let l = ltb-false i (s .clips .«left_soft») t in
-      by-test (ltb i (s .clips .«left_soft» + mappedLength (s .length) (s .clips)))
-      (λ u.
-      let m : i - s .clips .«left_soft» < mappedLength (s .length) (s .clips) = omega (arith, ltb-true i (s .clips .«left_soft» + mappedLength (s .length) (s .clips)) u) in
-      let k : s .clips .«left_soft» + (i - s .clips .«left_soft») ≡ i = omega arith in
-      rw (← k) (rw (mapped-at (i - s .clips .«left_soft») m) (rw sub-zero at (mapped-real alphabet reference first mapped (beginning position) (editsAt class alphabet frame (s .edits) (s .«edits_at»)) (i - s .clips .«left_soft») (a .edits) z (omega arith) m))))
-      (λ u.
-      let v = ltb-false i (s .clips .«left_soft» + mappedLength (s .length) (s .clips)) u in
-      let j = i - (s .clips .«left_soft» + mappedLength (s .length) (s .clips)) in
-      let m : j < s .clips .«right_soft» = omega (arith, a .clips) in
-      let k : s .clips .«left_soft» + mappedLength (s .length) (s .clips) + j ≡ i = omega arith in
-      let g = base-of-right j m in
-      let w : s .«soft_at» + s .clips .«left_soft» + j ≡ s .«soft_at» + (s .clips .«left_soft» + j) = omega arith in
-      let e = rw (k, w) at g in
-      rw e (letter-real alphabet (getD frame (s .«soft_at» + (s .clips .«left_soft» + j)) 0) (soft (s .clips .«left_soft» + j) (omega arith)))))

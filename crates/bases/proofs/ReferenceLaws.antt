@@ -10,14 +10,14 @@ use native.Mathlib.Numerals.{add-one}
 use borrow.Author.Tests.{lt-ltb, le-ltb, le-leb, lt-leb, ltb-true, ltb-false, eqb-true}
 use lib.Dec.{ltb, leb, eqb}
 use lib.ListN.{length, getD, replicate, set, length-replicate}
-use Rattle.refusal.specs.Numbers.{fine, symbolOut}
+use Rattle.refusal.specs.Numbers.{fine, symbolOut, firstRefusal}
 use Rattle.writing.specs.Lay.{lay, Laid}
 use Rattle.frame.proofs.HexLaws.{by-test}
 use Rattle.writing.proofs.LayLaws.{laid-as, laid-then, laid-room}
 use Rattle.alphabet.specs.Table35.{letterN, letterOf, sizeOf}
 use Rattle.alphabet.specs.code.Digits.{digitsOf}
 use Rattle.alphabet.proofs.AlphabetLaws.{digits-high, digits-low, letter-past}
-use Rattle.bases.specs.Reference.{isLent, baseAt, baseRefusal, firstRefusal, matchedBases, matchRefusal}
+use Rattle.bases.specs.Reference.{isLent, baseAt, baseRefusal, matchedBases, matchRefusal}
 use Rattle.bases.specs.Bases.{lettersAt}
 use Rattle.bases.specs.code.Helpers.{least, lentBefore, symbolsRefusal}
 

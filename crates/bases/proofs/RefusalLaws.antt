@@ -3,11 +3,11 @@
 use mathlib.Core.List.{List, [], _∷_}
 use Prim.Native.Nat.{ℕ, zero, suc, _+_, _-_}
 use lib.Dec.{leb, eqb, lit<}
-use Rattle.refusal.specs.Numbers.{fine, FineOrEarly}
+use Rattle.refusal.specs.Numbers.{fine, FineOrEarly, firstRefusal}
 use Rattle.frame.proofs.Tests.{one-of}
 use Rattle.alphabet.specs.Table35.{sizeOf}
 use Rattle.edits.specs.declared.edit.Edit.{Edit}
-use Rattle.bases.specs.Reference.{isLent, lentSymbol, baseRefusal, firstRefusal, matchRefusal}
+use Rattle.bases.specs.Reference.{isLent, lentSymbol, baseRefusal, matchRefusal}
 use Rattle.bases.specs.Bases.{R, r, pastEdit, refusalFrom}
 use Rattle.bases.specs.declared.places.Places.{Places}
 

@@ -77,11 +77,6 @@ refusalFrom alphabet reference first mapped p (e ∷ es) =
     firstRefusal (matchRefusal alphabet reference first (R p) (e .offset - r p))
     (refusalFrom alphabet reference first mapped (pastEdit e p) es)
 
--- both pointers behind the last base
-unfoldable pub pastAll : (mapped : ℕ) → Places → List Edit → Places
-pastAll mapped p [] = pastMatch mapped p
-pastAll mapped p (e ∷ es) = pastAll mapped (pastEdit e p) es
-
 -- ---- the whole read
 
 -- the letters of n symbols, from a place on

@@ -5,8 +5,7 @@ use mathlib.Core.Bool.{Bool, false, cond}
 use mathlib.Core.List.{List, [], _∷_}
 use lib.Dec.{ltb, leb}
 use lib.ListN.{length, getD}
-use Rattle.refusal.specs.Numbers.{fine, symbolOut}
-pub use Rattle.refusal.specs.Numbers.{firstRefusal}
+use Rattle.refusal.specs.Numbers.{fine, symbolOut, firstRefusal}
 use Rattle.alphabet.specs.Table35.{letterN, sizeOf, letterOf}
 
 -- a position inside the lent reference: from that of its first base on, as many as there are bases

@@ -19,9 +19,9 @@ use Rattle.frame.proofs.StepLaws.{past-field, past-refusal}
 use Rattle.edits.specs.declared.Clips.{Clips}
 use Rattle.edits.specs.declared.Block.{Block}
 use Rattle.edits.specs.Lengths.{mostRead, mostEdits, noClips, softBases, mappedLength}
-use Rattle.edits.specs.Edits.{widthOf, Sound, takenFrom}
+use Rattle.edits.specs.Edits.{widthOf, Sound, takenFrom, blockEdits}
 use Rattle.ecigar.specs.Check.{checkOf}
-use Rattle.ecigar.specs.Ecigar.{blockEdits, ecigarText, clipsLength, OfItsClass}
+use Rattle.ecigar.specs.Ecigar.{ecigarText, clipsLength, OfItsClass}
 use Rattle.ecigar.specs.declared.check.EditsChecked.{EditsChecked}
 use Rattle.ecigar.specs.declared.check.EditsChecked.the-variants as edits
 use Rattle.ecigar.proofs.CheckLaws.{checked-fine}

@@ -11,7 +11,6 @@ use Rattle.ecigar.specs.declared.check.EditsChecked.{EditsChecked}
 use Rattle.ecigar.specs.declared.check.EditsChecked.the-variants as edits
 use Rattle.block.specs.Checked.{afterChecked}
 use Rattle.block.specs.Aligned.{afterClips, afterEdits, fromSoft}
-use Rattle.block.specs.declared.aligned.AlignedBlock.{AlignedBlock}
 use Rattle.block.specs.declared.checked.CheckedField.{CheckedField}
 use Rattle.block.specs.declared.checked.CheckedField.the-variants.{Value, Refused}
 use Rattle.block.specs.declared.clips.Clipped.{Clipped}

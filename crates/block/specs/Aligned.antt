@@ -4,9 +4,9 @@
 -- read length u16                                      alignedAt, Checked.lengthAt           8
 -- rcomp                                                fromRcomp, Checked.rcompAt            11
 -- I, HM: left soft, left hard, right soft, right hard  fromClips, Clips.clipsAt              9, once all four are read
--- I, HM: soft-clipped bases, left then right           fromSoft, Symbols.symbolsAt           10
+-- I, HM: soft-clipped bases, left then right           fromSoft, Symbols.symbolRun           10
 -- all but P: edit count u16                            fromEdits, Checked.countAt            11
--- the edits                                            tallied, ecigar Check.editsRefusal    11, 10, 12, edit by edit
+-- the edits                                            editsTallied, Check.editsRefusal      11, 10, 12, edit by edit
 -- then, in Segment.placed: 13 (Place), 10 of the reference (bases)
 -- Assumes nothing.
 use Prim.Native.Nat.{ℕ, _+_, _*_}

@@ -3,7 +3,6 @@ use edits::Clips;
 use frame::field::Cursor;
 use frame::field::Field;
 ghost use mathlib.Core.Path.{_≡_};
-ghost use Prim.Native.Nat.{_<_};
 ghost use Rattle.frame.specs.Hex.{unhex};
 ghost use Rattle.block.specs.Clips.{clipsAt, clipsIn};
 

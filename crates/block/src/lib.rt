@@ -1,4 +1,4 @@
-// One block of a record: read field by field from the lent line, refused where document 01 says, and written into the lent output.
+// One block of a record: read field by field from the lent line, and refused where document 01 says.
 pub mod aligned;
 pub mod checked;
 pub mod clips;

@@ -11,12 +11,12 @@ use Rattle.writing.specs.Decimal.{decimalF, decimal}
 use Rattle.writing.proofs.DecimalLaws.{bytes-digits}
 use Rattle.alphabet.specs.Table35.{letterOf}
 use Rattle.alphabet.proofs.AlphabetLaws.{letter-byte}
-use Rattle.edits.specs.Edits.{substitution, insertion, deletion}
+use Rattle.edits.specs.Edits.{substitution, insertion, deletion, blockEdits}
 use Rattle.edits.specs.Lengths.{mappedLength}
 use Rattle.edits.specs.declared.edit.Edit.{Edit}
 use Rattle.edits.specs.declared.Block.{Block}
 use Rattle.ecigar.specs.Table90.{Operation, matched, substituted, inserted, deleted, softClipped, hardClipped, counted, print, printAll}
-use Rattle.ecigar.specs.Ecigar.{joinsRun, past, matches, openRun, gap, mark, ending, operationsFrom, clip, leftClip, blockOperations, blockEdits, setOut, ecigarText}
+use Rattle.ecigar.specs.Ecigar.{joinsRun, past, matches, openRun, gap, mark, ending, operationsFrom, clip, leftClip, blockOperations, setOut, ecigarText}
 use Rattle.ecigar.specs.declared.walk.Walk.{Walk}
 use Rattle.ecigar.proofs.PrintLaws.{printed-append, printed-one}
 

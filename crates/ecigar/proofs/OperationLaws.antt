@@ -13,7 +13,7 @@ use lib.ListN.{length, length-append}
 use Rattle.frame.proofs.HexLaws.{by-test}
 use Rattle.writing.proofs.DecimalLaws.{digits-short}
 use Rattle.alphabet.specs.Table35.{sizeOf, letterOf}
-use Rattle.edits.specs.Edits.{substitution, insertion, deletion, nextOffset, editsAt, Sound, takenFrom}
+use Rattle.edits.specs.Edits.{substitution, insertion, deletion, nextOffset, editsAt, Sound, takenFrom, blockEdits}
 use Rattle.edits.specs.Lengths.{mostRead, mostEdits, mostEcigar, softBases, mappedLength}
 use Rattle.edits.specs.declared.edit.Edit.{Edit}
 use Rattle.edits.specs.declared.Clips.{Clips}
@@ -23,7 +23,7 @@ use Rattle.ecigar.specs.declared.walk.Walk.{Walk}
 use Rattle.ecigar.specs.declared.check.EditsChecked.the-variants.{Fine}
 use Rattle.ecigar.specs.Check.{checkOf}
 use Rattle.ecigar.specs.Table90.{Operation, matched, substituted, inserted, deleted, roundClose, squareClose, printAll, movesRead, movesReference, total, AllPositive}
-use Rattle.ecigar.specs.Ecigar.{setOut, joinsRun, past, matches, openRun, gap, mark, ending, operationsFrom, operationsOf, ecigarOf, clip, clipsLength, leftClip, rightClip, blockEdits, blockOperations, ecigarText}
+use Rattle.ecigar.specs.Ecigar.{setOut, joinsRun, past, matches, openRun, gap, mark, ending, operationsFrom, operationsOf, ecigarOf, clip, clipsLength, leftClip, rightClip, blockOperations, ecigarText}
 use Rattle.ecigar.proofs.PrintLaws.{length-counted, length-printed}
 use Rattle.ecigar.proofs.WalkLaws.{Open, length-mark, ending-both, text-on, text-end, past-next, past-kind, past-open, past-joined, past-apart, joins-true, matches-most, closed-most, edit-most, clip-soft, clip-hard, clip-none}
 use Rattle.ecigar.proofs.CheckLaws.{checked-fine}

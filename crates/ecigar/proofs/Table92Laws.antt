@@ -13,16 +13,15 @@ use Rattle.frame.proofs.HexLaws.{by-test}
 use Rattle.unit.specs.Unit.{classP, classN, classM, classI, classHM}
 use Rattle.alphabet.specs.Table35.{letterN, letterOf, codeOfN, sizeOf}
 use Rattle.alphabet.proofs.AlphabetLaws.{letter-of-n}
-use Rattle.edits.specs.Edits.{substitution, widthOf, editAt, editsAt, Sound}
+use Rattle.edits.specs.Edits.{substitution, widthOf, editAt, editsAt, Sound, blockEdits}
 use Rattle.edits.specs.Lengths.{noClips, mappedLength}
 use Rattle.edits.specs.declared.edit.Edit.{Edit}
 use Rattle.edits.specs.declared.Block.{Block}
 use Rattle.edits.proofs.EditLaws.{length-edits, edits-none}
-use Rattle.alphabet.proofs.AlphabetLaws.{letter-of-n}
 use Rattle.ecigar.specs.Table90.{printAll}
-use Rattle.ecigar.specs.Ecigar.{setOut, ecigarOf, clip, leftClip, rightClip, blockEdits, ecigarText, offsetsOf, lettersIn, typesOf, OfItsClass}
+use Rattle.ecigar.specs.Ecigar.{setOut, ecigarOf, clip, leftClip, rightClip, ecigarText, OfItsClass}
 use Rattle.ecigar.specs.Table93.{item, decodeECigarMismatches}
-use Rattle.ecigar.specs.Table92.{leftClipped, rightClipped, ecigarString}
+use Rattle.ecigar.specs.Table92.{leftClipped, rightClipped, ecigarString, offsetsOf, lettersIn, typesOf}
 use Rattle.ecigar.proofs.WalkLaws.{matches-some, clip-soft, clip-hard, clip-none}
 use Rattle.ecigar.proofs.TextLaws.{text-parts}
 use Rattle.ecigar.proofs.Table93Laws.{Each, none, more, item-here, end-plain, indel-text, mismatch-text}
@@ -123,7 +122,7 @@ bare-text class alphabet frame s h = text-parts class alphabet frame s ∙ rw (h
 
 -- For every segment whose edits are accepted, in class P, N, M, I or HM, the text is Table 92's.
 -- leftSoftClips and rightSoftClips are the clipped bases, of which only the number counts.
--- Every aligned segment that is read is one: `listed-is-table92` (segment, proofs/StandardLaws).
+-- Every aligned segment that is read is one: `text-is-table92` (segment, proofs/WriteLaws).
 pub ecigar-is-table92 : (class alphabet : ℕ) (frame : List ℕ) (s : Block) (leftSoftClips rightSoftClips : List ℕ)
     → OfItsClass class s
     → Sound (mappedLength (s .length) (s .clips)) (sizeOf alphabet) 0 (blockEdits class alphabet frame s)

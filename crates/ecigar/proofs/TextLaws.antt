@@ -7,14 +7,14 @@ use native.Mathlib.Omega.{arith}
 use lib.ListN.{length, length-append}
 use Rattle.writing.proofs.LayLaws.{Rest, rest-room}
 use Rattle.alphabet.specs.Table35.{sizeOf}
-use Rattle.edits.specs.Edits.{widthOf, editAt, editsAt, Sound}
-use Rattle.edits.specs.Lengths.{mostEdits, mappedLength}
+use Rattle.edits.specs.Edits.{widthOf, editAt, editsAt, Sound, blockEdits}
+use Rattle.edits.specs.Lengths.{mappedLength}
 use Rattle.edits.specs.declared.edit.Edit.{Edit}
 use Rattle.edits.specs.declared.Block.{Block}
-use Rattle.edits.proofs.EditLaws.{accepted, edits-none, list-on}
+use Rattle.edits.proofs.EditLaws.{edits-none, list-on}
 use Rattle.ecigar.specs.declared.walk.Walk.{Walk}
 use Rattle.ecigar.specs.Table90.{printAll}
-use Rattle.ecigar.specs.Ecigar.{past, gap, mark, ending, operationsFrom, operationsOf, ecigarOf, clipsLength, leftClip, rightClip, blockEdits, blockOperations, ecigarText}
+use Rattle.ecigar.specs.Ecigar.{past, gap, mark, ending, operationsFrom, operationsOf, ecigarOf, clipsLength, leftClip, rightClip, blockOperations, ecigarText}
 use Rattle.ecigar.specs.Check.{checkOf}
 use Rattle.ecigar.specs.declared.check.EditsChecked.the-variants.{Fine}
 use Rattle.ecigar.proofs.PrintLaws.{printed-append}

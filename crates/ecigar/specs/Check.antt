@@ -45,7 +45,7 @@ editsChecked class alphabet frame at count mapped =
     (length (ecigarOf alphabet mapped (editsAt class alphabet frame count at)))
 
 -- the whole check: the count of edits before the edits (11), and no read is longer than the longest (8).
--- In a record neither is met here: the block's own fields are refused before (segment's `countIn`, `lengthIn`)
+-- In a record neither is met here: the block's own fields are refused before (block's `countIn`, `lengthIn`)
 unfoldable pub checkOf : (class alphabet : ℕ) (frame : List ℕ) (at count mapped : ℕ) → EditsChecked
 checkOf class alphabet frame at count mapped =
     cond (ltb mostEdits count) (Refused fieldOut)

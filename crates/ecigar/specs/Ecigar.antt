@@ -8,15 +8,13 @@ use mathlib.Core.List.{List, [], _∷_, _++_}
 use lib.Dec.{eqb}
 use lib.ListN.{length}
 use Rattle.alphabet.specs.Table35.{letterOf}
-use Rattle.edits.specs.Edits.{substitution, insertion, deletion, nextOffset}
+use Rattle.edits.specs.Edits.{substitution, insertion, deletion, nextOffset, blockEdits}
 use Rattle.unit.specs.Unit.{classP, classI, classHM}
 use Rattle.edits.specs.Lengths.{noClips, mappedLength}
 use Rattle.edits.specs.declared.edit.Edit.{Edit}
 use Rattle.edits.specs.declared.Clips.{Clips}
 use Rattle.edits.specs.declared.Block.{Block}
 use Rattle.ecigar.specs.declared.walk.Walk.{Walk}
-pub use Rattle.edits.specs.Edits.{blockEdits}
-pub use Rattle.ecigar.specs.Table92.{offsetsOf, lettersIn, typesOf}
 use Rattle.ecigar.specs.Table90.{Operation, matched, substituted, inserted, deleted, softClipped, hardClipped, printAll}
 
 -- before the first edit: previousOffset is 0 and no run is open

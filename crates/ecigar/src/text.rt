@@ -16,10 +16,10 @@ ghost use lib.ListN.{length};
 ghost use Rattle.frame.specs.Hex.{unhex};
 ghost use Rattle.writing.specs.Lay.{Laid};
 ghost use Rattle.alphabet.specs.Table35.{sizeOf};
-ghost use Rattle.edits.specs.Edits.{widthOf, editsAt, Sound};
+ghost use Rattle.edits.specs.Edits.{widthOf, editsAt, Sound, blockEdits};
 ghost use Rattle.edits.specs.Lengths.{mostEdits, mappedLength};
 ghost use Rattle.ecigar.specs.Table90.{counted, printAll};
-ghost use Rattle.ecigar.specs.Ecigar.{openRun, matches, gap, mark, ending, ecigarOf, blockEdits, ecigarText};
+ghost use Rattle.ecigar.specs.Ecigar.{openRun, matches, gap, mark, ending, ecigarOf, ecigarText};
 
 // A count and its sign.
 pub(crate) fn put_count(out: &mut [u8], at: usize, n: u32, sign: u8) -> usize

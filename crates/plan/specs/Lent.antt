@@ -8,7 +8,6 @@ use lib.ListN.{length}
 use Rattle.refusal.specs.Numbers.{fine, misframed, countOut, missing}
 use Rattle.frame.specs.Steps.{unless}
 use Rattle.unit.specs.Unit.{unitRefusal, mostReference}
-use Rattle.frame.specs.Steps.{unless}
 use Rattle.unit.specs.State.{subsequences, mostSymbols, tableLength, within}
 use Rattle.unit.specs.declared.Unit.{Unit}
 use Rattle.unit.specs.declared.State.{State}

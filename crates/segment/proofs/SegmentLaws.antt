@@ -35,7 +35,7 @@ use Rattle.block.specs.declared.unaligned.UnalignedRead.the-variants as unalign
 use Rattle.segment.specs.declared.Segment.{Segment}
 use Rattle.segment.specs.declared.Segment.the-variants.{Unaligned, Absent}
 use Rattle.segment.specs.declared.SegmentRead.{SegmentRead}
-use Rattle.segment.specs.declared.SegmentRead.the-variants.{Whole, Refused}
+use Rattle.segment.specs.declared.SegmentRead.the-variants.{Whole}
 use Rattle.block.proofs.ReadyLaws.{ReadyBlock, of-its-class, block-ready, length-got, symbols-got}
 use Rattle.bases.proofs.ReferenceLaws.{length-letters}
 use Rattle.segment.proofs.WriteLaws.{text-is-table92}

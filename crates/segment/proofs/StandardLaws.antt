@@ -41,7 +41,7 @@ use Rattle.segment.specs.declared.Placed.{Placed}
 use Rattle.segment.specs.declared.Segment.{Segment}
 use Rattle.segment.specs.declared.Segment.the-variants.{Aligned, Unaligned}
 use Rattle.segment.specs.declared.SegmentRead.{SegmentRead}
-use Rattle.segment.specs.declared.SegmentRead.the-variants.{Whole, Refused}
+use Rattle.segment.specs.declared.SegmentRead.the-variants.{Whole}
 use Rattle.segment.proofs.PlaceLaws.{Inside, place-inside}
 use Rattle.block.proofs.ReadyLaws.{ReadyBlock, of-its-class, block-ready}
 use Rattle.segment.proofs.WriteLaws.{text-is-table92}

@@ -12,7 +12,6 @@ use Rattle.block.specs.declared.aligned.AlignedBlock.{AlignedBlock}
 use Rattle.block.specs.declared.unaligned.UnalignedBlock.{UnalignedBlock}
 use Rattle.block.specs.declared.unaligned.UnalignedRead.{UnalignedRead}
 use Rattle.block.specs.declared.unaligned.UnalignedRead.the-variants as unaligned
-use Rattle.block.specs.declared.checked.CheckedField.the-variants.{Refused}
 use Rattle.block.specs.declared.aligned.AlignedRead.{AlignedRead}
 use Rattle.block.specs.declared.aligned.AlignedRead.the-variants as block
 

@@ -8,8 +8,8 @@ use lib.ListN.{length}
 use Rattle.unit.specs.declared.Unit.{Unit as UnitOf}
 use Rattle.alphabet.specs.Table35.{sizeOf}
 use Rattle.edits.specs.Lengths.{mostEdits, mappedLength}
-use Rattle.edits.specs.Edits.{widthOf, Sound}
-use Rattle.ecigar.specs.Ecigar.{OfItsClass, blockEdits}
+use Rattle.edits.specs.Edits.{widthOf, Sound, blockEdits}
+use Rattle.ecigar.specs.Ecigar.{OfItsClass}
 use Rattle.block.specs.declared.unaligned.UnalignedBlock.{UnalignedBlock}
 use Rattle.segment.specs.Segment.{table92}
 use Rattle.segment.specs.declared.Placed.{Placed}

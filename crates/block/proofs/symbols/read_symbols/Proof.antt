@@ -1,6 +1,6 @@
 -- `block::symbols::read_symbols` meets its contract. The loop's invariant: to check what is left gives what checking the whole gives. Assumes nothing.
 use mathlib.Core.Path.{_≡_, refl, sym, _∙_}
-use Prim.Native.Nat.{_≤_, _-_}
+use Prim.Native.Nat.{_≤_}
 use native.Mathlib.Omega.{arith}
 use Rattle.frame.specs.Hex.{unhex}
 use Rattle.frame.proofs.HexLaws.{length-unhex}
