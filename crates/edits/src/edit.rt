@@ -3,10 +3,11 @@ use frame::field::byte_at;
 use unit::Unit;
 ghost use mathlib.Core.Path.{_≡_};
 ghost use mathlib.Core.Bool.{cond};
+ghost use mathlib.Core.List.{[], _∷_};
 ghost use lib.Dec.{ltb};
 ghost use Prim.Native.Nat.{_<_, _≤_};
 ghost use Rattle.frame.specs.Hex.{unhex};
-ghost use Rattle.edits.specs.Edits.{widthOf, editAt, nextOffset, editRefusal, deletionRefusal};
+ghost use Rattle.edits.specs.Edits.{substitution, insertion, deletion, noSymbol, widthOf, editAt, nextOffset, editRefusal, deletionRefusal};
 
 // One edit, as Table 93 has it: mmOffsets[i], mmTypes[i], and the index of mms[i].
 pub struct Edit {
@@ -24,6 +25,18 @@ impl Edit {
 
     // The symbol that a deletion carries.
     pub const NONE: u8 = 0;
+}
+
+// Each type, and no symbol, is its name in specs/: proved, and called by nothing.
+fn tied() -> [u8; 4]
+    ensures { λ r. ⌜ r ≡ substitution ∷ insertion ∷ deletion ∷ noSymbol ∷ [] ⌝ }
+{
+    [
+        Edit::SUBSTITUTION,
+        Edit::INSERTION,
+        Edit::DELETION,
+        Edit::NONE,
+    ]
 }
 
 // How many bytes an edit takes in a class.

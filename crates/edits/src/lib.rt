@@ -2,7 +2,8 @@
 pub mod edit;
 
 ghost use mathlib.Core.Path.{_≡_};
-ghost use Rattle.edits.specs.Lengths.{noClips, softBases, mappedLength};
+ghost use mathlib.Core.List.{[], _∷_};
+ghost use Rattle.edits.specs.Lengths.{mostRead, mostEdits, mostEcigar, noClips, softBases, mappedLength};
 
 // The clipped bases on both sides of a segment.
 pub struct Clips {
@@ -52,6 +53,13 @@ impl Block {
 
     // The longest E-CIGAR.
     pub const ECIGAR: u32 = 4_014;
+}
+
+// Each limit is its name in specs/: proved, and called by nothing.
+fn tied() -> [u32; 3]
+    ensures { λ r. ⌜ r ≡ mostRead ∷ mostEdits ∷ mostEcigar ∷ [] ⌝ }
+{
+    [Block::READ, Block::EDITS, Block::ECIGAR]
 }
 
 // The read length less both soft clips; 0 where they reach it.

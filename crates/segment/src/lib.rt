@@ -15,7 +15,7 @@ use unit::Unit;
 ghost use mathlib.Core.Path.{_≡_};
 ghost use Rattle.frame.specs.Hex.{unhex};
 ghost use Rattle.segment.specs.Segment.{placedAt, placed, plainAt};
-ghost use Rattle.segment.specs.code.Length.{segmentLength};
+ghost use Rattle.segment.specs.code.Length.{fixedBytes, segmentLength};
 
 // An aligned segment at its position, with the length of its E-CIGAR.
 pub struct Placed {
@@ -48,6 +48,13 @@ impl Segment {
             Segment::Absent => 0,
         }
     }
+}
+
+// The number is its name in specs/: proved, and called by nothing.
+fn tied() -> usize
+    ensures { λ r. ⌜ r ≡ fixedBytes ⌝ }
+{
+    Segment::FIXED
 }
 
 // A segment and the place behind its block, or the refusal's number.
