@@ -7,13 +7,14 @@ use lib.Dec.{eqb}
 use lib.ListN.{length}
 use Rattle.refusal.specs.Numbers.{unitOut}
 use Rattle.unit.specs.Listed.{Step, refused, accepted}
-use Rattle.record.specs.Record.{recordOf, output}
+use Rattle.record.specs.Record.{answerNumber, recordOf, output}
+use Rattle.record.specs.declared.Answer.the-variants.{Refused}
 use Rattle.lampbuckle.specs.Answer.{Outcome, answers, refuses}
 use Rattle.lampbuckle.specs.Numbers.{unitLength, unitOf, stateOf, stateNumbers}
 
 -- the line's bytes, its 0A among them, with the next state and the line; or a refusal
 abbrev pub recordAnswered : Step → List ℕ → List ℕ → Outcome
-recordAnswered (refused n) state out = refuses n (state ∷ out ∷ [])
+recordAnswered (refused n) state out = refuses (answerNumber (Refused n)) (state ∷ out ∷ [])
 recordAnswered (accepted frame next) state out = answers (2 * length frame + 1) (stateNumbers next ∷ output out (accepted frame next) ∷ [])
 
 -- a unit that is not eight numbers is refused by 3, before all else; a state that is not nine by 14, where the call refuses a state

@@ -7,9 +7,9 @@ use lib.Dec.{eqb}
 use lib.ListN.{length, set}
 use Rattle.refusal.specs.Numbers.{unitOut, countOut}
 use Rattle.unit.specs.State.{subsequences}
-use Rattle.front.specs.UnitLine.{unitLine}
-use Rattle.front.specs.PairLine.{pairLine, tableAfter}
-use Rattle.front.specs.ReferenceLine.{referenceLine, referenceAfter}
+use Rattle.front.specs.UnitLine.{unitLine, unitNumber}
+use Rattle.front.specs.PairLine.{pairLine, pairNumber, tableAfter}
+use Rattle.front.specs.ReferenceLine.{referenceLine, referenceNumber, referenceAfter}
 use Rattle.front.specs.declared.unit_line.UnitLine.{UnitLine}
 use Rattle.front.specs.declared.unit_line.UnitLine.the-variants as unit
 use Rattle.front.specs.declared.pair_line.PairLine.{PairLine}
@@ -24,7 +24,7 @@ use Rattle.lampbuckle.specs.Numbers.{unitLength, unitNumbers}
 -- the line's bytes, and the unit's numbers
 abbrev pub unitAnswered : UnitLine → List ℕ → List ℕ → Outcome
 unitAnswered (unit.Read u) line lent = answers (length line) (unitNumbers u ∷ [])
-unitAnswered (unit.Refused n) line lent = refuses n (lent ∷ [])
+unitAnswered (unit.Refused n) line lent = refuses (unitNumber (unit.Refused n)) (lent ∷ [])
 
 -- a place for another number of values is refused by 3, before the line is looked at
 unfoldable pub unitCall : List ℕ → List ℕ → Outcome
@@ -36,7 +36,7 @@ unitCall line lent =
 -- the symbol count; the symbols in their row of the table, and the count in its place among the counts
 abbrev pub pairAnswered : PairLine → List ℕ → ℕ → List ℕ → List ℕ → Outcome
 pairAnswered (pair.Count n) line number table counts = answers n (tableAfter line number table ∷ set counts number n ∷ [])
-pairAnswered (pair.Refused n) line number table counts = refuses n (table ∷ counts ∷ [])
+pairAnswered (pair.Refused n) line number table counts = refuses (pairNumber (pair.Refused n)) (table ∷ counts ∷ [])
 
 -- counts of another shape are refused by 4, before the line is looked at
 unfoldable pub pairCall : List ℕ → ℕ → List ℕ → List ℕ → Outcome
@@ -50,7 +50,7 @@ pairCall line number table counts =
 -- how many bases are there now; the line's behind those that were used
 abbrev pub referenceAnswered : ReferenceLine → List ℕ → List ℕ → ℕ → Outcome
 referenceAnswered (reference.Bases n) line lent used = answers n (referenceAfter line used lent ∷ [])
-referenceAnswered (reference.Refused n) line lent used = refuses n (lent ∷ [])
+referenceAnswered (reference.Refused n) line lent used = refuses (referenceNumber (reference.Refused n)) (lent ∷ [])
 
 -- the lent reference has room for as many bases as are lent; of its first `used` ones nothing differs
 unfoldable pub referenceCall : List ℕ → List ℕ → ℕ → Outcome

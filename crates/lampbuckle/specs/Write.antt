@@ -5,8 +5,8 @@ use mathlib.Core.Bool.{cond}
 use mathlib.Core.List.{List, [], _∷_}
 use lib.Dec.{eqb}
 use lib.IntN.{ℤ, pos}
-use Rattle.refusal.specs.Numbers.{fine, noRoom}
-use Rattle.writing.specs.Whole.{wroteOf, lineInto}
+use Rattle.refusal.specs.Numbers.{fine}
+use Rattle.writing.specs.Whole.{wroteNumber, wroteOf, lineInto}
 use Rattle.writing.specs.declared.lay.Wrote.{Wrote}
 use Rattle.writing.specs.declared.lay.Wrote.the-variants.{Line, NoRoom}
 use Rattle.front.specs.UnitLine.{unitBytes}
@@ -16,7 +16,7 @@ use Rattle.lampbuckle.specs.Numbers.{unitOf, unitNumbersRefusal}
 -- the line's bytes, its 0A among them; 17 where less is lent
 abbrev pub wrote : Wrote → ℤ
 wrote (Line n) = pos n
-wrote NoRoom = minus noRoom
+wrote NoRoom = minus (wroteNumber NoRoom)
 
 -- so many bytes as a signed integer can say
 abbrev pub Countable : Wrote → Type 0

@@ -1,6 +1,6 @@
 -- The laws of a file that is read through a buffer: bytes moved to the front, bytes read behind others, the first line of what waits.
 -- Assumes nothing.
-use Prim.Native.Nat.{ℕ, _+_, _-_, _<_, _≤_}
+use Prim.Native.Nat.{ℕ, zero, suc, _+_, _-_, _<_, _≤_}
 use native.Mathlib.Omega.{arith}
 use mathlib.Core.Path.{_≡_, refl, sym, ap, _∙_}
 use mathlib.Core.Bool.{Bool, true, false, cond}
@@ -9,13 +9,16 @@ use lib.Dec.{eqb, leb}
 use lib.IntN.{ℤ}
 use lib.ListN.{length, take, drop, getD, set, length-set, length-take, length-drop}
 use lib.Seq.{slice, getD-set-same, getD-set-other, getD-take, getD-drop, ext-getD, length-take-le, length-slice, take-take, take-add, drop-at}
-use borrow.Author.Tests.{eqb-true, eqb-false, leb-false}
+use borrow.Author.Tests.{eqb-true, eqb-false, leb-true, leb-false}
 use borrow.Rule.Slice.PartMut.{midOf, putMid, mid-len, same-len-mid, take-put}
-use Rattle.frame.specs.Line.{lineDigits, lineEnd}
-use Rattle.frame.specs.Next.{endedBy, nextLine}
+use Rattle.refusal.specs.Numbers.{malformed, missing}
+use Rattle.frame.specs.Line.{lineDigits, lineEnd, lineOf, lineNumber}
+use Rattle.frame.specs.Next.{endedBy, nextLine, nextNumber}
 use Rattle.frame.specs.declared.line.Next.{Next}
 use Rattle.frame.specs.declared.line.Next.the-variants.{Whole, TooLong, NoEnd}
-use Rattle.frame.proofs.HexLaws.{by-test, false-true}
+use Rattle.frame.proofs.Tests.{by-test, one-of}
+use Rattle.frame.proofs.HexLaws.{false-true}
+use Rattle.frame.proofs.LineLaws.{line-unended}
 use Rattle.resuming.specs.Pass.{passOver}
 use Rattle.resuming.proofs.PassLaws.{pass-within}
 use Rattle.stream.specs.Source.{unreadable, Held, Leads, Some, Filled, Refilled, WaitsFor, bytesBy, lineBytes, HandedLine}
@@ -181,11 +184,69 @@ line-within s =
         by-test (leb (length s) lineDigits) (λ e. rw e (omega arith))
         (λ e. rw e (omega (arith, leb-false (length s) lineDigits e)))
 
+-- a line of no bytes is none
+ended-some : (n k : ℕ) (xs : List ℕ) (without : Next) → 0 < bytesBy n without → 0 < bytesBy n (endedBy k xs without)
+unfolding endedBy
+ended-some n k [] without h = h
+ended-some n k (x ∷ xs) without h =
+    one-of (λ (a : Next). 0 < bytesBy n a) (eqb x lineEnd) (Whole (k + 1)) (endedBy (k + 1) xs without) (omega arith) (ended-some n (k + 1) xs without h)
+
+pub line-none : (s : List ℕ) → lineBytes s ≡ 0 → nextNumber (nextLine s) ≡ missing
+unfolding lineBytes nextLine
+line-none s h =
+    by-test (eqb (length s) 0) (λ e. rw e) (λ e.
+    let n : length s ≡ 0 → ⊥ = eqb-false (length s) 0 e in
+    let some = ended-some (length s) 0 (take (lineDigits + 1) s) (cond (leb (length s) lineDigits) NoEnd TooLong) (one-of (λ (a : Next). 0 < bytesBy (length s) a) (leb (length s) lineDigits) NoEnd TooLong (omega arith) (omega arith)) in
+    let h = rw e at h in
+    absurd (omega arith))
+
+-- where the answer is 1, there is no 0A among the bytes that are looked at
+no-ends : (k : ℕ) (xs : List ℕ) (without : Next) → nextNumber (endedBy k xs without) ≡ malformed
+    → (endedBy k xs without ≡ without) × ((i : ℕ) → i < length xs → getD xs i 0 ≡ lineEnd → ⊥)
+unfolding endedBy
+no-ends k [] without h = (refl, λ i g e. omega arith)
+no-ends k (x ∷ xs) without h =
+    by-test (eqb x lineEnd)
+    (λ t. let z = rw t at h in absurd (omega arith))
+    (λ t.
+    let r = no-ends (k + 1) xs without (rw t at h) in
+    (rw t (r .0), by t (r .1)))
+  where
+    by : eqb x lineEnd ≡ false → ((i : ℕ) → i < length xs → getD xs i 0 ≡ lineEnd → ⊥) → (i : ℕ) → i < suc (length xs) → getD (x ∷ xs) i 0 ≡ lineEnd → ⊥
+    by t r zero g e = eqb-false x lineEnd t e
+    by t r (suc i) g e = r i (omega arith) e
+
+-- so many bytes without 0A are no line
+no-line : (s : List ℕ) (m : ℕ) → 0 < m → m ≤ length s → m ≤ lineDigits + 1
+    → ((i : ℕ) → i < length (take (lineDigits + 1) s) → getD (take (lineDigits + 1) s) i 0 ≡ lineEnd → ⊥) → lineNumber (lineOf (take m s)) ≡ malformed
+no-line s m some h g none = ap lineNumber (line-unended lineDigits (take m s) (λ e. none (m - 1) (simp length-take (omega arith)) (last e)))
+  where
+    last : getD (take m s) (length (take m s) - 1) 0 ≡ lineEnd → getD (take (lineDigits + 1) s) (m - 1) 0 ≡ lineEnd
+    last e = rw (length-take-le m s h, getD-take m s (m - 1) 0 (omega arith), ← getD-take (lineDigits + 1) s (m - 1) 0 (omega arith)) at e
+
+pub line-refused : (s : List ℕ) → nextNumber (nextLine s) ≡ malformed → lineNumber (lineOf (take (lineBytes s) s)) ≡ malformed
+unfolding lineBytes nextLine
+line-refused s h =
+    by-test (eqb (length s) 0)
+    (λ e. let z = rw e at h in absurd (omega arith))
+    (λ e.
+    let n : length s ≡ 0 → ⊥ = eqb-false (length s) 0 e in
+    let w = no-ends 0 (take (lineDigits + 1) s) _ (rw e at h) in
+    by-test (leb (length s) lineDigits)
+    (λ t. rw (e, w .0, t) (no-line s (length s) (omega arith) (omega arith) (omega (arith, leb-true (length s) lineDigits t)) (w .1)))
+    (λ t. rw (e, w .0, t) (no-line s (lineDigits + 1) (omega arith) (omega (arith, leb-false (length s) lineDigits t)) (omega arith) (w .1))))
+
 -- the bytes that wait, as they are lent
 pub part-slice : (a e : ℕ) (l : List ℕ) → a ≤ e → e ≤ length l → take (e - a) (drop a l) ≡ slice a e l
 part-slice a e l h g =
     let w : a + (e - a) ≡ e = omega arith in
     sym (ap (drop a) (ap (λ n. take n l) (sym w) ∙ take-add a (e - a) l) ∙ drop-at (take a l) (take (e - a) (drop a l)) a (length-take-le a l (omega arith)))
+
+-- the first n of them
+part-front : (a e n : ℕ) (l : List ℕ) → a + n ≤ e → e ≤ length l → take n (slice a e l) ≡ slice a (a + n) l
+part-front a e n l h g =
+    let w : n ≡ a + n - a = omega arith in
+    rw (← part-slice a e l (omega arith) g, take-take n (e - a) (drop a l) (omega arith)) (ap (λ k. take k (drop a l)) w ∙ part-slice a (a + n) l (omega arith) (omega arith))
 
 -- they are as many as their places
 pub part-long : (a e : ℕ) (l : List ℕ) → e ≤ length l → length (take (e - a) (drop a l)) ≡ e - a
@@ -210,11 +271,19 @@ handed-line {before} {after} {s} {r} {t} n f q from to next end ended =
             leads = λ h. rw (from, end) (f .leads h);
             enough = λ o w. rw (from, end) (f .enough (sym ended ∙ o) w);
           };
-      line = to ∙ simp (from, end, q, part-slice (r .at) (r .end) after (f .held .order) (f .held .inside));
+      line = line;
+      none = λ e. line-none _ (omega (arith, line));
+      refused = λ e. rw (← part) (line-refused _ e);
     }
   where
     fits : r .at + n ≤ r .end
     fits = line-fits (r .at) (r .end) n after (f .held .order) (f .held .inside) q
+
+    line : t .to ≡ t .from + lineBytes (slice (t .from) (t .source .end) after)
+    line = to ∙ simp (from, end, q, part-slice (r .at) (r .end) after (f .held .order) (f .held .inside))
+
+    part : take (lineBytes (slice (t .from) (t .source .end) after)) (slice (t .from) (t .source .end) after) ≡ slice (t .from) (t .to) after
+    part = rw line (part-front (t .from) (t .source .end) _ after (omega (arith, fits, line)) (omega (arith, f .held .inside)))
 
 -- ---- lines passed over
 

@@ -7,8 +7,9 @@ use mathlib.Core.List.{List}
 use lib.IntN.{ℤ}
 use lib.ListN.{length, take}
 use lib.Seq.{slice}
-use Rattle.frame.specs.Line.{lineDigits}
-use Rattle.frame.specs.Next.{nextLine}
+use Rattle.refusal.specs.Numbers.{malformed, missing}
+use Rattle.frame.specs.Line.{lineDigits, lineOf, lineNumber}
+use Rattle.frame.specs.Next.{nextLine, nextNumber}
 use Rattle.frame.specs.declared.line.Next.{Next}
 use Rattle.frame.specs.declared.line.Next.the-variants.{Whole, TooLong, NoEnd, Nothing}
 use Rattle.stream.specs.declared.source.Source.{Source}
@@ -85,10 +86,13 @@ pub record Handed (wanted : ℕ) (before : List ℕ) (s : Source) (after : List 
   pub leads : Held (length before) s → Leads before s after (t .from) (t .source .end)
   pub enough : t .source .ended ≡ false → wanted ≤ length after → wanted ≤ t .source .end - t .from
 
--- it is the first line of the bytes that wait; a longest line is among them, or all that the file has left
+-- it is the first line of the bytes that wait; a longest line is among them, or all that the file has left.
+-- Nothing is handed on only where a line is missing (14); of too long a line, or one without 0A (1), so much that it is refused as such
 pub record HandedLine (before : List ℕ) (s : Source) (after : List ℕ) (t : LineAt) : Type 0 where
   pub part : Handed (lineDigits + 1) before s after t
   pub line : t .to ≡ t .from + lineBytes (slice (t .from) (t .source .end) after)
+  pub none : t .from ≡ t .to → nextNumber (nextLine (slice (t .from) (t .source .end) after)) ≡ missing
+  pub refused : nextNumber (nextLine (slice (t .from) (t .source .end) after)) ≡ malformed → lineNumber (lineOf (slice (t .from) (t .to) after)) ≡ malformed
 
 -- it is all the bytes that wait
 pub record HandedAll (before : List ℕ) (s : Source) (after : List ℕ) (t : LineAt) : Type 0 where
