@@ -1,7 +1,7 @@
 // A line: lower-case hexadecimal digits, two a byte, ended by 0A.
 ghost use mathlib.Core.Path.{_≡_};
 ghost use Rattle.frame.specs.Hex.{isDigit};
-ghost use Rattle.frame.specs.Line.{lineOf, lineWithin};
+ghost use Rattle.frame.specs.Line.{lineDigits, lineEnd, lineOf, lineWithin};
 ghost use Rattle.frame.specs.Next.{nextLine, windowOf};
 
 // What a slice is as a line.
@@ -16,7 +16,20 @@ impl Line {
     pub const DIGITS: usize = 20_058;
 
     // The byte that ends a line.
-    pub const END: u8 = 10;
+    pub const END: u8 = b'\n';
+
+    // Each number is its name in specs/: proved, and called by nothing.
+    fn tied_digits() -> usize
+        ensures { λ r. ⌜ r ≡ lineDigits ⌝ }
+    {
+        Line::DIGITS
+    }
+
+    fn tied_end() -> u8
+        ensures { λ r. ⌜ r ≡ lineEnd ⌝ }
+    {
+        Line::END
+    }
 }
 
 // What stands at the front of a slice.

@@ -9,6 +9,7 @@ use frame::line::line_of;
 use unit::State;
 use unit::kind::Kind;
 ghost use mathlib.Core.Path.{_≡_};
+ghost use mathlib.Core.List.{[], _∷_};
 ghost use Prim.Native.Nat.{_+_, _*_, _≤_};
 ghost use lib.ListN.{length};
 ghost use Rattle.frame.specs.Hex.{unhex};
@@ -29,6 +30,13 @@ impl PairLine {
 
     // The bytes of a symbol.
     const SYMBOL: usize = 4;
+
+    // Each number is its name in specs/: proved, and called by nothing.
+    fn tied() -> [usize; 2]
+        ensures { λ r. ⌜ r ≡ pairHead ∷ symbolBytes ∷ [] ⌝ }
+    {
+        [PairLine::HEAD, PairLine::SYMBOL]
+    }
 }
 
 // Whether the frame has just so many symbols behind its count.

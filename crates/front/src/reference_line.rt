@@ -12,7 +12,7 @@ ghost use Prim.Native.Nat.{_+_, _≤_};
 ghost use lib.ListN.{length};
 ghost use Rattle.frame.specs.Hex.{unhex};
 ghost use Rattle.frame.specs.Steps.{storedAt};
-ghost use Rattle.front.specs.ReferenceLine.{basesOf, addedBases, referenceLine, referenceAfter};
+ghost use Rattle.front.specs.ReferenceLine.{mostLineBases, basesOf, addedBases, referenceLine, referenceAfter};
 
 // What a reference line says.
 pub enum ReferenceLine {
@@ -24,6 +24,13 @@ pub enum ReferenceLine {
 impl ReferenceLine {
     // The most symbol indexes of a line.
     pub const BASES: usize = 1_000;
+
+    // The number is its name in specs/: proved, and called by nothing.
+    fn tied() -> usize
+        ensures { λ r. ⌜ r ≡ mostLineBases ⌝ }
+    {
+        ReferenceLine::BASES
+    }
 }
 
 // The answer to n bases more, where places are lent and used of them hold a base.

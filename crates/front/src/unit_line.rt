@@ -13,7 +13,7 @@ use writing::lay::write_line;
 ghost use mathlib.Core.Path.{_≡_};
 ghost use Rattle.frame.specs.Hex.{unhex};
 ghost use Rattle.writing.specs.Whole.{wroteOf, lineInto};
-ghost use Rattle.front.specs.UnitLine.{unitLine, unitClass, unitTemplate, unitEnds, unitBytes};
+ghost use Rattle.front.specs.UnitLine.{unitLineBytes, unitLine, unitClass, unitTemplate, unitEnds, unitBytes};
 
 // What a unit line says.
 pub enum UnitLine {
@@ -24,6 +24,13 @@ pub enum UnitLine {
 impl UnitLine {
     // The bytes of the line.
     pub const BYTES: usize = 20;
+
+    // The number is its name in specs/: proved, and called by nothing.
+    fn tied() -> usize
+        ensures { λ r. ⌜ r ≡ unitLineBytes ⌝ }
+    {
+        UnitLine::BYTES
+    }
 }
 
 // AU start and end, the record count, and nothing behind it.

@@ -33,16 +33,32 @@ keepCall piece lent =
 
 -- ---- where to go on
 
+-- the number of each place: the whole listing is added
+abbrev pub placeAfresh : ℕ
+placeAfresh = 0
+
+-- or all behind its first line
+abbrev pub placeSecond : ℕ
+placeSecond = 1
+
+-- or all behind a record
+abbrev pub placeOn : ℕ
+placeOn = 2
+
+-- or nothing
+abbrev pub placeOver : ℕ
+placeOver = 3
+
 -- the number of a place, and the state to go on from
 abbrev pub goesOn : ℕ → State → Outcome
 goesOn number next = answers number (stateNumbers next ∷ [])
 
--- 0 afresh, 1 behind the first line, 2 behind a record, 3 nothing is added; or the refusal
+-- by the place, or the refusal
 abbrev pub byGo : Go → State → List ℕ → Outcome
-byGo Afresh next lent = goesOn 0 next
-byGo Second next lent = goesOn 1 next
-byGo On next lent = goesOn 2 next
-byGo Over next lent = goesOn 3 next
+byGo Afresh next lent = goesOn placeAfresh next
+byGo Second next lent = goesOn placeSecond next
+byGo On next lent = goesOn placeOn next
+byGo Over next lent = goesOn placeOver next
 byGo (Refused n) next lent = refuses (numberOf (Refused n)) (lent ∷ [])
 
 -- the answer of `place`, as numbers

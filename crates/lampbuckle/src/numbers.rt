@@ -3,6 +3,7 @@ use kept::keep::Keep;
 use unit::State;
 use unit::Unit;
 ghost use mathlib.Core.Path.{_≡_};
+ghost use mathlib.Core.List.{[], _∷_};
 ghost use lib.ListN.{length};
 ghost use Rattle.unit.specs.State.{subsequences};
 ghost use Rattle.lampbuckle.specs.Numbers.{unitLength, stateLength, keepLength, unitOf, unitNumbers, noState, stateOf, stateNumbers, keepOf, keepNumbers, flag as flagOf};
@@ -15,6 +16,13 @@ pub const STATE: usize = State::SUBSEQUENCES + 1;
 
 // What is known of a found file.
 pub const KEEP: usize = 5;
+
+// Each number is its name in specs/: proved, and called by nothing.
+fn tied() -> [usize; 3]
+    ensures { λ r. ⌜ r ≡ unitLength ∷ stateLength ∷ keepLength ∷ [] ⌝ }
+{
+    [UNIT, STATE, KEEP]
+}
 
 pub(crate) fn read_unit(n: &[u32]) -> Unit
     requires { ⌜ length (now n) ≡ unitLength ⌝ }

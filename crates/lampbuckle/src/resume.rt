@@ -11,7 +11,7 @@ ghost use Prim.Native.Nat.{_<_, _^_};
 ghost use lib.ListN.{length};
 ghost use Rattle.lampbuckle.specs.Answer.{outcome};
 ghost use Rattle.lampbuckle.specs.Numbers.{stateLength};
-ghost use Rattle.lampbuckle.specs.Resume.{keepCall, goesOn, byGo, placeCall, passCall};
+ghost use Rattle.lampbuckle.specs.Resume.{placeAfresh, placeSecond, placeOn, placeOver, wantedLength, keepCall, goesOn, byGo, placeCall, passCall};
 
 // Where to go on, as a number: the whole listing is added, or all behind its first line, or all behind a record, or nothing.
 const AFRESH: usize = 0;
@@ -24,6 +24,13 @@ const OVER: usize = 3;
 
 // How many numbers say what a pass still wants.
 const WANTED: usize = 1;
+
+// Each number is its name in specs/: proved, and called by nothing.
+fn tied() -> [usize; 5]
+    ensures { λ r. ⌜ r ≡ placeAfresh ∷ placeSecond ∷ placeOn ∷ placeOver ∷ wantedLength ∷ [] ⌝ }
+{
+    [AFRESH, SECOND, ON, OVER, WANTED]
+}
 
 // One piece more of a found file. It answers 1 where nothing that follows is kept, else 0.
 #[no_mangle]

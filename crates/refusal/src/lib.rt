@@ -1,4 +1,7 @@
 // Document 01's refusal numbers, in the order of its table.
+ghost use mathlib.Core.Path.{_≡_};
+ghost use mathlib.Core.List.{[], _∷_};
+ghost use Rattle.refusal.specs.Numbers.{fine, malformed, misframed, unitOut, countOut, usedUp, codeOut, valueOut, lengthOut, clipsOut, symbolOut, fieldOut, offsetOut, positionOut, missing, otherFirst, otherLast, noRoom};
 
 // Nothing is refused.
 pub const FINE: u32 = 0;
@@ -53,3 +56,29 @@ pub const OTHER_LAST: u32 = 16;
 
 // Lent output shorter than the line with its 0A.
 pub const NO_ROOM: u32 = 17;
+
+// Each number is its name in specs/: proved, and called by nothing.
+fn tied() -> [u32; 18]
+    ensures { λ r. ⌜ r ≡ fine ∷ malformed ∷ misframed ∷ unitOut ∷ countOut ∷ usedUp ∷ codeOut ∷ valueOut ∷ lengthOut ∷ clipsOut ∷ symbolOut ∷ fieldOut ∷ offsetOut ∷ positionOut ∷ missing ∷ otherFirst ∷ otherLast ∷ noRoom ∷ [] ⌝ }
+{
+    [
+        FINE,
+        MALFORMED,
+        MISFRAMED,
+        UNIT_OUT,
+        COUNT_OUT,
+        USED_UP,
+        CODE_OUT,
+        VALUE_OUT,
+        LENGTH_OUT,
+        CLIPS_OUT,
+        SYMBOL_OUT,
+        FIELD_OUT,
+        OFFSET_OUT,
+        POSITION_OUT,
+        MISSING,
+        OTHER_FIRST,
+        OTHER_LAST,
+        NO_ROOM,
+    ]
+}

@@ -2,6 +2,7 @@
 use frame::field::byte_at;
 use frame::line::Line;
 use frame::line::line_within;
+use listing::close;
 use unit::State;
 use unit::kind::Kind;
 use unit::listed::ListedLine;
@@ -98,13 +99,13 @@ fn frame_last(line: &[u8], bytes: usize, count: u32, counts: [u32; State::SUBSEQ
         return listed_last(line, bytes, count, counts);
     }
     if kind == Kind::REFUSED {
-        if bytes == ListedLine::BYTES_05 {
+        if bytes == close::BYTES_05 {
             return bare(LastSays::Whole);
         }
         return bare(LastSays::Bad);
     }
     if kind == Kind::DONE {
-        if bytes == ListedLine::BYTES_06 {
+        if bytes == close::BYTES_06 {
             return bare(LastSays::Whole);
         }
         return bare(LastSays::Bad);

@@ -17,6 +17,10 @@ use Rattle.stream.specs.declared.source.LineAt.{LineAt}
 use Rattle.stream.specs.declared.source.Got.{Got}
 use Rattle.stream.specs.declared.source.Got.the-variants.{Bytes, End, Failed}
 
+-- the last byte of a file that can be gone to
+abbrev pub lastPlace : ℕ
+lastPlace = 9223372036854775807
+
 -- the bytes that wait stand in a buffer of n bytes
 pub record Held (n : ℕ) (s : Source) : Type 0 where
   pub order : s .at ≤ s .end

@@ -8,7 +8,7 @@ ghost use mathlib.Core.Path.{_≡_};
 ghost use Prim.Native.Nat.{_+_, _≤_};
 ghost use lib.ListN.{length, take as takeList};
 ghost use lib.Seq.{slice};
-ghost use Rattle.stream.specs.Source.{unread, unreadable as unreadableSource, Held, WithinAsked, Filled, Refilled, WaitsFor, lineBytes, HandedLine, HandedAll};
+ghost use Rattle.stream.specs.Source.{lastPlace, unread, unreadable as unreadableSource, Held, WithinAsked, Filled, Refilled, WaitsFor, lineBytes, HandedLine, HandedAll};
 
 // The bytes of the buffer from `at` to `end` are read and not handed on yet.
 pub struct Source {
@@ -43,6 +43,13 @@ enum Got {
 impl Source {
     // The last byte of a file that can be gone to.
     const PLACES: usize = 9_223_372_036_854_775_807;
+
+    // The number is its name in specs/: proved, and called by nothing.
+    fn tied() -> usize
+        ensures { λ r. ⌜ r ≡ lastPlace ⌝ }
+    {
+        Source::PLACES
+    }
 
     // A file from where it stands.
     pub fn new(fd: i32) -> Source

@@ -3,8 +3,9 @@ pub mod kind;
 pub mod listed;
 
 ghost use mathlib.Core.Path.{_≡_};
-ghost use Rattle.unit.specs.Unit.{unitRefusal, leastSegments};
-ghost use Rattle.unit.specs.State.{freshState, within as withinOf};
+ghost use mathlib.Core.List.{[], _∷_};
+ghost use Rattle.unit.specs.Unit.{classP, classN, classM, classI, classHM, classU, lastAlphabet, mostSegments, largest16, mostRecords, mostReference, unitRefusal, leastSegments};
+ghost use Rattle.unit.specs.State.{subsequences, mostSymbols, tableLength, freshState, within as withinOf};
 
 // The unit line's eight values.
 pub struct Unit {
@@ -46,6 +47,30 @@ impl Unit {
 
     // The most lent reference bases.
     pub const REFERENCE: usize = 32_768;
+
+    // Each number is its name in specs/: proved, and called by nothing.
+    fn tied() -> [u32; 10]
+        ensures { λ r. ⌜ r ≡ classP ∷ classN ∷ classM ∷ classI ∷ classHM ∷ classU ∷ lastAlphabet ∷ mostSegments ∷ largest16 ∷ mostRecords ∷ [] ⌝ }
+    {
+        [
+            Unit::P,
+            Unit::N,
+            Unit::M,
+            Unit::I,
+            Unit::HM,
+            Unit::U,
+            Unit::ALPHABETS,
+            Unit::SEGMENTS,
+            Unit::LARGEST16,
+            Unit::RECORDS,
+        ]
+    }
+
+    fn tied_reference() -> usize
+        ensures { λ r. ⌜ r ≡ mostReference ⌝ }
+    {
+        Unit::REFERENCE
+    }
 
     // The fewest template segments of a class.
     pub fn least_segments(class: u32) -> u32
@@ -101,6 +126,19 @@ impl State {
 
     // The places of the flat table.
     pub const TABLE: usize = State::SUBSEQUENCES * (State::SYMBOLS as usize);
+
+    // Each number is its name in specs/: proved, and called by nothing.
+    fn tied() -> [usize; 2]
+        ensures { λ r. ⌜ r ≡ subsequences ∷ tableLength ∷ [] ⌝ }
+    {
+        [State::SUBSEQUENCES, State::TABLE]
+    }
+
+    fn tied_symbols() -> u32
+        ensures { λ r. ⌜ r ≡ mostSymbols ⌝ }
+    {
+        State::SYMBOLS
+    }
 
     pub fn fresh() -> State
         ensures { λ r. ⌜ r ≡ freshState ⌝ }

@@ -1,4 +1,8 @@
-// The lines of a listing: their lengths, and where an 04 line has what is read back from it.
+// The lines of a listing: how long they are, and where an 04 line has what is read back from it.
+ghost use mathlib.Core.Path.{_≡_};
+ghost use mathlib.Core.List.{[], _∷_};
+ghost use Rattle.unit.specs.Listed.{mostListed, leastListed, numberPlace, indexPlace};
+
 pub struct ListedLine {}
 
 impl ListedLine {
@@ -13,8 +17,15 @@ impl ListedLine {
 
     pub const INDEX: usize = 3;
 
-    // The bytes of an 05 and of an 06 line.
-    pub const BYTES_05: usize = 4;
-
-    pub const BYTES_06: usize = 3;
+    // Each number is its name in specs/: proved, and called by nothing.
+    fn tied() -> [usize; 4]
+        ensures { λ r. ⌜ r ≡ mostListed ∷ leastListed ∷ numberPlace ∷ indexPlace ∷ [] ⌝ }
+    {
+        [
+            ListedLine::DIGITS,
+            ListedLine::LEAST,
+            ListedLine::NUMBER,
+            ListedLine::INDEX,
+        ]
+    }
 }
