@@ -7,8 +7,8 @@ use mathlib.Core.List.{List, [], _∷_, _++_}
 use Prim.Native.Nat.{ℕ, zero, suc, _+_, _*_, _-_, _/_, _%_, _^_, _<_, _≤_}
 use native.Mathlib.Nat.{div-add-mod', zero-add, suc-add, add-comm, div-div-eq-div-mul}
 use native.Mathlib.Omega.{arith}
-use borrow.Author.Tests.{lt-ltb, le-ltb, ltb-true, ltb-false}
-use lib.Dec.{ltb, lit<}
+use borrow.Author.Tests.{lt-ltb, le-ltb, ltb-true, ltb-false, le-leb, lt-leb, leb-true}
+use lib.Dec.{ltb, leb, lit<}
 use lib.ListN.{length, getD}
 use lib.Pow.{pow-add}
 use Rattle.frame.proofs.Tests.{cond-of}
@@ -28,7 +28,7 @@ nib-below d e = rw e (nib-lt d)
 pub nib-glyph : (n : ℕ) → n < 16 → nib (glyph n) ≡ n
 unfolding glyph nib
 nib-glyph n h =
-    cond-of (λ x. nib x ≡ n) (ltb n 10) (48 + n) (87 + n)
+    cond-of (λ x. nib x ≡ n) (ltb n 10) (48 + n) (97 + (n - 10))
     (λ a.
     let l : n < 10 = ltb-true n 10 a in
     let q : (48 + n) / 64 ≡ 0 = omega arith in
@@ -36,8 +36,8 @@ nib-glyph n h =
     rw (q, r) (omega arith))
     (λ a.
     let l : 10 ≤ n = ltb-false n 10 a in
-    let q : (87 + n) / 64 ≡ 1 = omega arith in
-    let r : (87 + n) % 16 ≡ n - 9 = omega arith in
+    let q : (97 + (n - 10)) / 64 ≡ 1 = omega arith in
+    let r : (97 + (n - 10)) % 16 ≡ n - 9 = omega arith in
     rw (q, r) (omega arith))
 
 pub glyph-from : (d : ℕ) → 48 ≤ glyph d
@@ -49,16 +49,17 @@ pub digit-glyph : (n : ℕ) → n < 16 → isDigit (glyph n) ≡ true
 unfolding isDigit glyph
 digit-glyph n h =
     by-test (ltb n 10)
-    (λ e. let l : n < 10 = ltb-true n 10 e in simp (e, le-ltb (48 + n) 48 (omega arith), lt-ltb (48 + n) 58 (omega arith)))
+    (λ e. let l : n < 10 = ltb-true n 10 e in simp (e, le-ltb (48 + n) 48 (omega arith), le-leb (48 + n) 57 (omega arith)))
     (λ e. let l : 10 ≤ n = ltb-false n 10 e in
-    simp (e, le-ltb (87 + n) 48 (omega arith), le-ltb (87 + n) 58 (omega arith), le-ltb (87 + n) 97 (omega arith), lt-ltb (87 + n) 103 (omega arith)))
+    let d = 97 + (n - 10) in
+    simp (e, le-ltb d 48 (omega arith), lt-leb d 57 (omega arith), le-ltb d 97 (omega arith), le-leb d 102 (omega arith)))
 
-pub digit-range : (d : ℕ) → isDigit d ≡ true → ((48 ≤ d) × (d < 58)) ⊎ ((97 ≤ d) × (d < 103))
+pub digit-range : (d : ℕ) → isDigit d ≡ true → ((48 ≤ d) × (d ≤ 57)) ⊎ ((97 ≤ d) × (d ≤ 102))
 unfolding isDigit
 digit-range d t =
     by-test (ltb d 48) (λ e. false-true (simp e at t)) (λ e.
-    by-test (ltb d 58) (λ f. inl (ltb-false d 48 e, ltb-true d 58 f)) (λ f.
-    by-test (ltb d 97) (λ g. false-true (simp (e, f, g) at t)) (λ g. inr (ltb-false d 97 g, ltb-true d 103 (simp (e, f, g) at t)))))
+    by-test (leb d 57) (λ f. inl (ltb-false d 48 e, leb-true d 57 f)) (λ f.
+    by-test (ltb d 97) (λ g. false-true (simp (e, f, g) at t)) (λ g. inr (ltb-false d 97 g, leb-true d 102 (simp (e, f, g) at t)))))
 
 pub glyph-nib : (d : ℕ) → isDigit d ≡ true → glyph (nib d) ≡ d
 unfolding glyph nib

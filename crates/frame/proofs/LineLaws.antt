@@ -52,8 +52,8 @@ line-is-frame most bs h l =
       m,
       ne-eqb _ _ odd,
       le-ltb most (2 * length bs) l,
-      getD-at (hexOf bs) 10 [] 0 (2 * length bs) (length-hexOf bs),
-      take-at (hexOf bs) (10 ∷ []) (2 * length bs) (length-hexOf bs),
+      getD-at (hexOf bs) lineEnd [] 0 (2 * length bs) (length-hexOf bs),
+      take-at (hexOf bs) (lineEnd ∷ []) (2 * length bs) (length-hexOf bs),
       digits-hexOf bs h,
       half,
     )

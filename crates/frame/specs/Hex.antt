@@ -2,16 +2,17 @@
 -- Assumes nothing.
 use mathlib.Core.Bool.{Bool, true, false, cond}
 use mathlib.Core.List.{List, [], _∷_}
-use Prim.Native.Nat.{ℕ, zero, suc, _+_, _*_, _/_, _%_, _^_, _<_}
-use lib.Dec.{ltb}
+use Prim.Native.Nat.{ℕ, zero, suc, _+_, _-_, _*_, _/_, _%_, _^_, _<_}
+use Prim.Native.Char.{code}
+use lib.Dec.{ltb, leb}
 
 -- 0 to 9 and a to f
 unfoldable pub isDigit : ℕ → Bool
-isDigit d = cond (ltb d 48) false (cond (ltb d 58) true (cond (ltb d 97) false (ltb d 103)))
+isDigit d = cond (ltb d (code "0")) false (cond (leb d (code "9")) true (cond (ltb d (code "a")) false (leb d (code "f"))))
 
 -- the digit that stands for a number below 16
 unfoldable pub glyph : ℕ → ℕ
-glyph n = cond (ltb n 10) (48 + n) (87 + n)
+glyph n = cond (ltb n 10) (code "0" + n) (code "a" + (n - 10))
 
 -- a digit's value: `nib-glyph` and `glyph-nib` say that it undoes `glyph`. Of a byte that is no digit it is some number below 16
 unfoldable pub nib : ℕ → ℕ

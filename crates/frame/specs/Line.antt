@@ -3,6 +3,7 @@
 use mathlib.Core.Bool.{cond}
 use mathlib.Core.List.{List, [], _∷_, _++_}
 use Prim.Native.Nat.{ℕ, _-_, _/_, _%_}
+use Prim.Native.Char.{code}
 use lib.Dec.{ltb, eqb}
 use lib.ListN.{length, take, getD}
 use Rattle.refusal.specs.Numbers.{fine, malformed}
@@ -17,7 +18,7 @@ lineDigits = 20058
 
 -- the byte that ends a line
 abbrev pub lineEnd : ℕ
-lineEnd = 10
+lineEnd = code "\n"
 
 -- document 01's number of an answer: other digits, odd count or too long a line is 1
 abbrev pub lineNumber : Line → ℕ

@@ -46,16 +46,16 @@ pub enum Next {
 fn is_digit(d: u8) -> bool
     ensures { λ r. ⌜ r ≡ isDigit d ⌝ }
 {
-    if d < 48 {
+    if d < b'0' {
         return false;
     }
-    if d < 58 {
+    if d <= b'9' {
         return true;
     }
-    if d < 97 {
+    if d < b'a' {
         return false;
     }
-    d < 103
+    d <= b'f'
 }
 
 // A line of at most so many digits. Listing lines are longer than input lines, so the limit is the caller's.

@@ -3,6 +3,7 @@
 use mathlib.Core.Path.{_≡_, refl}
 use mathlib.Core.Bool.{Bool, true, false, cond}
 use mathlib.Core.List.{[], _∷_, _++_}
+use Prim.Native.Char.{code}
 use Prim.Native.Nat.{ℕ, zero, suc, _+_, _*_, _/_, _%_, _^_, _<_, _≤_}
 use native.Mathlib.Nat.{pow-suc}
 use native.Mathlib.Omega.{arith}
@@ -26,11 +27,11 @@ enough (suc f) zero n h k = absurd (omega arith)
 enough (suc f) (suc g) n h k =
     cond-else (ltb n 10) _ _ _ (λ e. rw (enough f g (n / 10) (omega (arith, ltb-false n 10 e)) (omega (arith, ltb-false n 10 e))))
 
-pub decimal-small : (n : ℕ) → n < 10 → decimal n ≡ (48 + n) ∷ []
+pub decimal-small : (n : ℕ) → n < 10 → decimal n ≡ (code "0" + n) ∷ []
 unfolding decimal decimalF
 decimal-small n h = rw (lt-ltb n 10 h)
 
-pub decimal-more : (n : ℕ) → 10 ≤ n → decimal n ≡ decimal (n / 10) ++ (48 + n % 10) ∷ []
+pub decimal-more : (n : ℕ) → 10 ≤ n → decimal n ≡ decimal (n / 10) ++ (code "0" + n % 10) ∷ []
 unfolding decimal decimalF
 decimal-more n h = rw (le-ltb n 10 h, enough n (suc (n / 10)) (n / 10) (omega arith) (omega arith))
 
@@ -81,5 +82,5 @@ unfolding decimalF Bytes
 bytes-digits zero n = tt
 bytes-digits (suc f) n =
     by-test (ltb n 10)
-    (λ t. simp t (let l : n < 10 = ltb-true n 10 t in bytes-one (48 + n) (omega arith)))
-    (λ t. simp t (bytes-append (decimalF f (n / 10)) _ (bytes-digits f (n / 10)) (bytes-one (48 + n % 10) (omega arith))))
+    (λ t. simp t (let l : n < 10 = ltb-true n 10 t in bytes-one (code "0" + n) (omega arith)))
+    (λ t. simp t (bytes-append (decimalF f (n / 10)) _ (bytes-digits f (n / 10)) (bytes-one (code "0" + n % 10) (omega arith))))

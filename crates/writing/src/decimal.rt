@@ -19,8 +19,8 @@ pub fn put_decimal(out: &mut [u8], at: usize, n: u32) -> usize
     ensures { λ r. ⌜ Laid (now (out .entry)) (now (out .exit)) at r (decimal n) ⌝ }
 {
     if n < 10 {
-        return put_byte(out, at, (48 + n) as u8);
+        return put_byte(out, at, b'0' + n as u8);
     }
     let next = put_decimal(out, at, n / 10);
-    put_byte(out, next, (48 + n % 10) as u8)
+    put_byte(out, next, b'0' + (n % 10) as u8)
 }

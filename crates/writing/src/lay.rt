@@ -18,7 +18,7 @@ fn digit_of(n: u8) -> u8
     requires { ⌜ n < 16 ⌝ }
     ensures { λ r. ⌜ r ≡ glyph n ⌝ }
 {
-    if n < 10 { 48 + n } else { 87 + n }
+    if n < 10 { b'0' + n } else { b'a' + (n - 10) }
 }
 
 pub fn put_byte(out: &mut [u8], at: usize, b: u8) -> usize

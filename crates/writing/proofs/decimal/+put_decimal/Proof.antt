@@ -25,14 +25,6 @@ abbrev put-decimal-below : ℕ → In 1 put-decimal-kinds.ps
 put-decimal-below t =
     and 1 put-decimal-kinds.ps (falls 1 put-decimal-kinds.ps _<_ μ-put-decimal t) put-decimal.Pre
 
-put-decimal-add-put-byte : (t : ℕ) → put-decimal-lts.Need-add-put-byte (
-  put-byte-reads.Asked,
-  put-byte-reads.Learnt,
-  put-decimal-below t,
-  put-decimal.Post,
-) (put-decimal-at t) put-decimal.Post
-put-decimal-add-put-byte t c = omega arith
-
 put-decimal-cast-put-byte : (t : ℕ) → put-decimal-lts.Need-cast-put-byte (
   put-byte-reads.Asked,
   put-byte-reads.Learnt,
@@ -40,6 +32,14 @@ put-decimal-cast-put-byte : (t : ℕ) → put-decimal-lts.Need-cast-put-byte (
   put-decimal.Post,
 ) (put-decimal-at t) put-decimal.Post
 put-decimal-cast-put-byte t c = omega arith
+
+put-decimal-add-put-byte : (t : ℕ) → put-decimal-lts.Need-add-put-byte (
+  put-byte-reads.Asked,
+  put-byte-reads.Learnt,
+  put-decimal-below t,
+  put-decimal.Post,
+) (put-decimal-at t) put-decimal.Post
+put-decimal-add-put-byte t c = omega arith
 
 put-decimal-put-byte-requires : (t : ℕ) → put-decimal-lts.Need-put-byte-requires (
   put-byte-reads.Asked,
@@ -73,14 +73,6 @@ put-decimal-put-decimal-requires : (t : ℕ) → put-decimal-lts.Need-put-decima
 ) (put-decimal-at t) put-decimal.Post
 put-decimal-put-decimal-requires t c κs = (omega arith, omega (arith, length-more _ (c .before .if1 .left)))
 
-put-decimal-add-put-byte-2 : (t : ℕ) → put-decimal-lts.Need-add-put-byte-2 (
-  put-byte-reads.Asked,
-  put-byte-reads.Learnt,
-  put-decimal-below t,
-  put-decimal.Post,
-) (put-decimal-at t) put-decimal.Post
-put-decimal-add-put-byte-2 t c = omega arith
-
 put-decimal-cast-put-byte-2 : (t : ℕ) → put-decimal-lts.Need-cast-put-byte-2 (
   put-byte-reads.Asked,
   put-byte-reads.Learnt,
@@ -88,6 +80,14 @@ put-decimal-cast-put-byte-2 : (t : ℕ) → put-decimal-lts.Need-cast-put-byte-2
   put-decimal.Post,
 ) (put-decimal-at t) put-decimal.Post
 put-decimal-cast-put-byte-2 t c = omega arith
+
+put-decimal-add-put-byte-2 : (t : ℕ) → put-decimal-lts.Need-add-put-byte-2 (
+  put-byte-reads.Asked,
+  put-byte-reads.Learnt,
+  put-decimal-below t,
+  put-decimal.Post,
+) (put-decimal-at t) put-decimal.Post
+put-decimal-add-put-byte-2 t c = omega arith
 
 put-decimal-put-byte-requires-2 : (t : ℕ) → put-decimal-lts.Need-put-byte-requires-2 (
   put-byte-reads.Asked,
@@ -122,14 +122,14 @@ pub +put-decimal-spec : {M : Type 1} → statement M
 )
     (put-decimal-at t)
     put-decimal.Post
-    (put-decimal-add-put-byte t)
     (put-decimal-cast-put-byte t)
+    (put-decimal-add-put-byte t)
     (put-decimal-put-byte-requires t)
     (put-decimal-same-length t)
     (put-decimal-returns t)
     (put-decimal-put-decimal-requires t)
-    (put-decimal-add-put-byte-2 t)
     (put-decimal-cast-put-byte-2 t)
+    (put-decimal-add-put-byte-2 t)
     (put-decimal-put-byte-requires-2 t)
     (put-decimal-same-length-2 t)
     (put-decimal-returns-2 t)
