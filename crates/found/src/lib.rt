@@ -15,7 +15,7 @@ use unit::listed::ListedLine;
 use writing::lay::Wrote;
 ghost use Prim.Native.Nat.{_≤_};
 ghost use lib.ListN.{length};
-ghost use Rattle.found.specs.Found.{EdgeWithin};
+ghost use Rattle.found.specs.code.Found.{EdgeWithin};
 
 // As much of a kept line as decides where to go on (law `edges-by-a-buffer`): more than any line of a listing has.
 const EDGE: usize = ListedLine::DIGITS + 2;

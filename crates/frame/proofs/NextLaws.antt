@@ -11,7 +11,8 @@ use lib.Dec.{eqb, leb}
 use lib.ListN.{length, take, getD}
 use lib.Seq.{take-take, take-all, length-take-le, slice, slice-cons, slice-empty}
 use Rattle.frame.specs.Line.{lineDigits, lineEnd}
-use Rattle.frame.specs.Next.{endedBy, windowOf, nextLine}
+use Rattle.frame.specs.Next.{endedBy, nextLine}
+use Rattle.frame.specs.code.Window.{windowOf}
 use Rattle.frame.specs.declared.line.Next.{Next}
 use Rattle.frame.specs.declared.line.Next.the-variants.{Whole, TooLong, NoEnd, Nothing}
 use Rattle.frame.proofs.HexLaws.{by-test}

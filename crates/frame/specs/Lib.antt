@@ -3,3 +3,4 @@ pub mod Line
 pub mod Next
 pub mod Field
 pub mod Steps
+pub mod code

@@ -27,7 +27,3 @@ unfoldable pub nextLine : List ℕ → Next
 nextLine s =
     cond (eqb (length s) 0) Nothing
     (endedBy 0 (take (lineDigits + 1) s) (cond (leb (length s) lineDigits) NoEnd TooLong))
-
--- how much of n bytes the code looks at; `next-at` says that this much is enough
-unfoldable pub windowOf : ℕ → ℕ
-windowOf n = cond (leb n lineDigits) n (lineDigits + 1)

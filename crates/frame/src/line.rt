@@ -2,7 +2,8 @@
 ghost use mathlib.Core.Path.{_≡_};
 ghost use Rattle.frame.specs.Hex.{isDigit};
 ghost use Rattle.frame.specs.Line.{lineDigits, lineEnd, lineOf, lineWithin};
-ghost use Rattle.frame.specs.Next.{nextLine, windowOf};
+ghost use Rattle.frame.specs.Next.{nextLine};
+ghost use Rattle.frame.specs.code.Window.{windowOf};
 
 // What a slice is as a line.
 pub enum Line {

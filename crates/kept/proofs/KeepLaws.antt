@@ -16,7 +16,7 @@ use Rattle.frame.proofs.HexLaws.{by-test}
 use Rattle.listing.specs.Lines.{linesOf, keptWith, kept, WholeLine, end, more}
 use Rattle.listing.specs.Resuming.{lastFrom, edges, edgesFrom, edgesOf}
 use Rattle.kept.specs.Keep.{mostBytes, fresh, keptNoMore, lineKept, passedBy, keepByte, keepAll, edgesAt, Known}
-use Rattle.kept.specs.Run.{runLength, RunEnd, keepRun}
+use Rattle.kept.specs.code.Run.{runLength, RunEnd, keepRun}
 use Rattle.kept.specs.declared.keep.Keep.{Keep}
 use Rattle.listing.proofs.LinesLaws.{kept-line, lines-line, whole-long}
 

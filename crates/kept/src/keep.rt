@@ -4,7 +4,7 @@ ghost use mathlib.Core.Path.{_≡_};
 ghost use Prim.Native.Nat.{_+_, _<_, _≤_};
 ghost use lib.ListN.{length};
 ghost use Rattle.kept.specs.Keep.{mostBytes, fresh, keptNoMore as stoppedAt, lineKept, passedBy, keepByte, keepAll};
-ghost use Rattle.kept.specs.Run.{keepRun, RunEnd};
+ghost use Rattle.kept.specs.code.Run.{keepRun, RunEnd};
 
 // What is known of the bytes that are read so far.
 pub struct Keep {

@@ -17,7 +17,8 @@ use Rattle.front.specs.UnitLine.{unitBytes}
 use Rattle.unit.specs.declared.Unit.{Unit}
 use Rattle.lampbuckle.specs.Answer.{minus, outcome}
 use Rattle.lampbuckle.specs.Numbers.{unitLength, unitOf, unitNumbersRefusal}
-use Rattle.lampbuckle.specs.Write.{wrote, Countable, writtenCall, unitWritten}
+use Rattle.lampbuckle.specs.Write.{wrote, writtenCall, unitWritten}
+use Rattle.lampbuckle.specs.code.Countable.{Countable}
 
 module _ (frame out : List ℕ) {r : Wrote} {after : List ℕ} (is : (r ≡ wroteOf out frame) × (after ≡ lineInto out frame)) where
   -- a line has fewer bytes than are lent

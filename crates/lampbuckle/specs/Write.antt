@@ -1,6 +1,6 @@
 -- The calls that write a line of the listing (document 01, The listing).
 -- Assumes nothing.
-use Prim.Native.Nat.{ℕ, _^_, _<_}
+use Prim.Native.Nat.{ℕ}
 use mathlib.Core.Bool.{cond}
 use mathlib.Core.List.{List, [], _∷_}
 use lib.Dec.{eqb}
@@ -17,11 +17,6 @@ use Rattle.lampbuckle.specs.Numbers.{unitOf, unitNumbersRefusal}
 abbrev pub wrote : Wrote → ℤ
 wrote (Line n) = pos n
 wrote NoRoom = minus (wroteNumber NoRoom)
-
--- so many bytes as a signed integer can say
-abbrev pub Countable : Wrote → Type 0
-Countable (Line n) = n < 2 ^ 63
-Countable NoRoom = Unit {0}
 
 -- a frame's line at the front of what is lent, and nothing behind it
 unfoldable pub writtenCall : List ℕ → List ℕ → Outcome

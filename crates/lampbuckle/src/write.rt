@@ -9,7 +9,8 @@ ghost use mathlib.Core.Path.{_≡_};
 ghost use mathlib.Core.List.{[], _∷_};
 ghost use Rattle.listing.specs.Listing.{frame05, frame06};
 ghost use Rattle.lampbuckle.specs.Answer.{outcome};
-ghost use Rattle.lampbuckle.specs.Write.{wrote, Countable, writtenCall, unitWritten};
+ghost use Rattle.lampbuckle.specs.Write.{wrote, writtenCall, unitWritten};
+ghost use Rattle.lampbuckle.specs.code.Countable.{Countable};
 
 fn answered(w: Wrote) -> i64
     requires { ⌜ Countable w ⌝ }

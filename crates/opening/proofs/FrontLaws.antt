@@ -7,7 +7,7 @@ use mathlib.Core.List.{List}
 use Rattle.front.specs.ReferenceLine.{referenceLine}
 use Rattle.front.specs.declared.reference_line.ReferenceLine.the-variants.{Bases}
 use Rattle.front.proofs.ReferenceLaws.{reference-accepted}
-use Rattle.opening.specs.Front.{Grown}
+use Rattle.opening.specs.code.Front.{Grown}
 
 pub reference-grows : (line : List ℕ) (used places n : ℕ) → referenceLine line used places ≡ Bases n → Grown used n
 reference-grows line used places n e =

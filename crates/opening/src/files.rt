@@ -9,7 +9,7 @@ use stream::source::Source;
 use stream::source::take;
 use unit::State;
 use unit::Unit;
-ghost use Rattle.opening.specs.Front.{Grows};
+ghost use Rattle.opening.specs.code.Front.{Grows};
 
 // How far the front can be read.
 pub enum FrontRead {

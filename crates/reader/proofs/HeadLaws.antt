@@ -12,7 +12,7 @@ use Rattle.frame.specs.declared.field.Cursor.{Cursor}
 use Rattle.frame.specs.declared.field.Field.{Field}
 use Rattle.frame.specs.declared.field.Field.the-variants.{Value}
 use Rattle.frame.proofs.HexLaws.{by-test}
-use Rattle.reader.specs.Reading.{behind}
+use Rattle.reader.specs.code.Reading.{behind}
 use Rattle.reader.specs.Head.{recordHead}
 use Rattle.reader.specs.declared.head.Head.{Head}
 

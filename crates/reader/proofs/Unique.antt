@@ -8,7 +8,7 @@ use Rattle.frame.specs.Hex.{unhex}
 use Rattle.frame.specs.Field.{fieldAt}
 use Rattle.frame.specs.declared.field.Field.{Field}
 use Rattle.frame.proofs.Unique.{once}
-use Rattle.reader.specs.Reading.{widthBytes, atFront, further}
+use Rattle.reader.specs.code.Reading.{widthBytes, atFront, further}
 use Rattle.reader.specs.Head.{recordHead}
 use Rattle.reader.specs.declared.Reader.{Reader}
 use Rattle.reader.specs.declared.Width.{Width}

@@ -7,7 +7,7 @@ use frame::field::Field;
 ghost use mathlib.Core.Path.{_≡_};
 ghost use Rattle.frame.specs.Hex.{unhex};
 ghost use Rattle.frame.specs.Field.{fieldAt};
-ghost use Rattle.reader.specs.Reading.{widthBytes, behind, atFront, further};
+ghost use Rattle.reader.specs.code.Reading.{widthBytes, behind, atFront, further};
 
 // The line's digits, and how many bytes of its frame are read.
 pub struct Reader<'a>(&'a [u8], usize);

@@ -21,7 +21,8 @@ use Rattle.frame.proofs.HexLaws.{false-true}
 use Rattle.frame.proofs.LineLaws.{line-unended}
 use Rattle.resuming.specs.Pass.{passOver}
 use Rattle.resuming.proofs.PassLaws.{pass-within}
-use Rattle.stream.specs.Source.{unreadable, Held, Leads, Some, Filled, Refilled, WaitsFor, bytesBy, lineBytes, HandedLine}
+use Rattle.stream.specs.Source.{unreadable, Held, Leads, WaitsFor, bytesBy, lineBytes, HandedLine}
+use Rattle.stream.specs.code.Filling.{Some, Filled, Refilled}
 use Rattle.resuming.specs.declared.pass.Passed.{Passed}
 use Rattle.stream.specs.declared.source.Source.{Source}
 use Rattle.stream.specs.declared.source.LineAt.{LineAt}

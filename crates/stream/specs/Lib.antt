@@ -1,1 +1,2 @@
 pub mod Source
+pub mod code

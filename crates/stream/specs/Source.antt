@@ -1,11 +1,11 @@
 -- A file that is read through a buffer: what of the buffer is read and not handed on yet.
 -- Assumes nothing.
-use Prim.Native.Nat.{ℕ, _+_, _-_, _<_, _≤_}
+use Prim.Native.Nat.{ℕ, _+_, _-_, _≤_}
 use mathlib.Core.Path.{_≡_}
 use mathlib.Core.Bool.{true, false}
 use mathlib.Core.List.{List}
 use lib.IntN.{ℤ}
-use lib.ListN.{length, take}
+use lib.ListN.{length}
 use lib.Seq.{slice}
 use Rattle.refusal.specs.Numbers.{malformed, missing}
 use Rattle.frame.specs.Line.{lineDigits, lineOf, lineNumber}
@@ -14,8 +14,6 @@ use Rattle.frame.specs.declared.line.Next.{Next}
 use Rattle.frame.specs.declared.line.Next.the-variants.{Whole, TooLong, NoEnd, Nothing}
 use Rattle.stream.specs.declared.source.Source.{Source}
 use Rattle.stream.specs.declared.source.LineAt.{LineAt}
-use Rattle.stream.specs.declared.source.Got.{Got}
-use Rattle.stream.specs.declared.source.Got.the-variants.{Bytes, End, Failed}
 
 -- the last byte of a file that can be gone to
 abbrev pub lastPlace : ℕ
@@ -38,31 +36,6 @@ unreadable fd = record { fd = fd; at = 0; end = 0; ended = true; failed = true }
 pub record Leads (before : List ℕ) (s : Source) (after : List ℕ) (at end : ℕ) : Type 0 where
   pub room : at + (s .end - s .at) ≤ end
   pub same : slice at (at + (s .end - s .at)) after ≡ slice (s .at) (s .end) before
-
--- what one read brought into n places: where it is bytes, at least one
-pub record Some (n k : ℕ) : Type 0 where
-  pub more : 0 < k
-  pub inside : k ≤ n
-
-abbrev pub WithinAsked : ℕ → Got → Type 0
-WithinAsked n (Bytes k) = Some n k
-WithinAsked n End = Unit
-WithinAsked n Failed = Unit
-
--- bytes are read behind those that wait, up to the file's end or the buffer's
-pub record Filled (before : List ℕ) (s : Source) (after : List ℕ) (r : Source) : Type 0 where
-  pub held : Held (length after) r
-  pub start : r .at ≡ s .at
-  pub more : s .end ≤ r .end
-  pub same : take (s .end) after ≡ take (s .end) before
-  pub full : r .ended ≡ false → r .end ≡ length after
-
--- the same, with the bytes that wait at the front of the buffer
-pub record Refilled (before : List ℕ) (s : Source) (after : List ℕ) (r : Source) : Type 0 where
-  pub held : Held (length after) r
-  pub start : r .at ≡ 0
-  pub leads : Leads before s after (r .at) (r .end)
-  pub full : r .ended ≡ false → r .end ≡ length after
 
 -- so many bytes wait, where the buffer has room for them and the file does not end before
 pub record WaitsFor (wanted : ℕ) (before : List ℕ) (s : Source) (after : List ℕ) (r : Source) : Type 0 where

@@ -8,7 +8,8 @@ ghost use mathlib.Core.Path.{_≡_};
 ghost use Prim.Native.Nat.{_+_, _≤_};
 ghost use lib.ListN.{length, take as takeList};
 ghost use lib.Seq.{slice};
-ghost use Rattle.stream.specs.Source.{lastPlace, unread, unreadable as unreadableSource, Held, WithinAsked, Filled, Refilled, WaitsFor, lineBytes, HandedLine, HandedAll};
+ghost use Rattle.stream.specs.Source.{lastPlace, unread, unreadable as unreadableSource, Held, WaitsFor, lineBytes, HandedLine, HandedAll};
+ghost use Rattle.stream.specs.code.Filling.{WithinAsked, Filled, Refilled};
 
 // The bytes of the buffer from `at` to `end` are read and not handed on yet.
 pub struct Source {

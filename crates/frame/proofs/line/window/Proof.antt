@@ -1,5 +1,5 @@
 -- `frame::line::window` meets its contract. Assumes nothing.
-use Rattle.frame.specs.Next.{windowOf}
+use Rattle.frame.specs.code.Window.{windowOf}
 use borrow.Author.Tests.{le-leb, lt-leb}
 use borrow.Author.Needs.{needs}
 use Rattle.frame.proofs.line.window.Statement.{statement}

@@ -4,7 +4,7 @@ use native.Mathlib.Omega.{arith}
 use mathlib.Core.Path.{_≡_, refl}
 use denote.Ref.{now}
 use lib.ListN.{length, drop}
-use Rattle.kept.specs.Run.{runLength}
+use Rattle.kept.specs.code.Run.{runLength}
 use Rattle.kept.proofs.KeepLaws.{run-over, run-stops, run-goes}
 use Rattle.kept.proofs.keep.run_end.Statement.{statement}
 use Rattle.kept.proofs.keep.run_end.Tie as tie

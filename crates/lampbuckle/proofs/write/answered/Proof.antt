@@ -1,6 +1,7 @@
 -- `lampbuckle::write::answered` meets its contract, case by case. Assumes nothing.
 use mathlib.Core.Path.{sym, ap, subst, _∙_}
-use Rattle.lampbuckle.specs.Write.{wrote, Countable}
+use Rattle.lampbuckle.specs.Write.{wrote}
+use Rattle.lampbuckle.specs.code.Countable.{Countable}
 use Rattle.lampbuckle.proofs.AnswerLaws.{told}
 use borrow.Author.Needs.{needs}
 use Rattle.lampbuckle.proofs.write.answered.Statement.{statement}

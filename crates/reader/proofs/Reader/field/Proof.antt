@@ -51,7 +51,7 @@ use Rattle.frame.specs.Field.{fieldAt}
 use Rattle.frame.specs.declared.field.Field.{Field}
 use Rattle.frame.proofs.field.Field as F
 use Rattle.frame.proofs.field.Field.Laws as F′
-use Rattle.reader.specs.Reading.{widthBytes, behind}
+use Rattle.reader.specs.code.Reading.{widthBytes, behind}
 use Rattle.reader.specs.declared.Reader.{Reader}
 use Rattle.reader.specs.declared.Width.{Width}
 use Rattle.reader.proofs.Reader as T

@@ -1,7 +1,7 @@
 -- `kept::keep::Keep::run` meets its contract: what can be counted is, and the rest is not. Assumes nothing.
 use mathlib.Core.Path.{_∙_, ap}
 use Rattle.kept.specs.Keep.{keptNoMore}
-use Rattle.kept.specs.Run.{keepRun}
+use Rattle.kept.specs.code.Run.{keepRun}
 use borrow.Author.Tests.{le-leb, lt-leb}
 use borrow.Author.Needs.{needs}
 use Rattle.kept.proofs.keep.Keep.run.Statement.{statement}

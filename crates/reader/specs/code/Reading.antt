@@ -1,3 +1,4 @@
+-- For the code, not for the reader.
 -- A reading place: the line and how many bytes of its frame are read.
 -- Assumes nothing.
 use mathlib.Core.List.{List}

@@ -1,3 +1,4 @@
+-- For the code, not for the reader.
 -- A run of digits, which `Keep` passes over at once: the contracts of `Keep::over`'s own loops speak of it, and no promise does. Nobody needs to believe it: `keep-run` (proofs/KeepLaws) shows that it is `keepAll`.
 -- Assumes nothing.
 use Prim.Native.Nat.{ℕ, suc, _+_, _-_, _≤_}

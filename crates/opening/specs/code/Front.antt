@@ -1,3 +1,4 @@
+-- For the code, not for the reader.
 -- The reference, line by line.
 -- Assumes nothing.
 use Prim.Native.Nat.{ℕ, _<_, _≤_}

@@ -1,3 +1,4 @@
+-- For the code, not for the reader.
 -- A kept line that is read again.
 -- Assumes nothing.
 use Prim.Native.Nat.{ℕ, _≤_}
