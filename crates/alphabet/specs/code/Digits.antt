@@ -1,7 +1,7 @@
 -- For the code, not for the reader.
 -- The digits of an alphabet's letters, for a writer of many: a line's text of Table 35's letters.
 -- Assumes nothing.
-use Prim.Native.Nat.{ℕ, zero, suc, _+_}
+use Prim.Native.Nat.{ℕ, zero, suc, _+_, _*_}
 use mathlib.Core.List.{List, [], _∷_}
 use Rattle.frame.specs.Hex.{hexOf}
 use Rattle.alphabet.specs.Table35.{letterOf}
@@ -11,6 +11,14 @@ unfoldable pub lettersFrom : (alphabet index n : ℕ) → List ℕ
 lettersFrom alphabet index zero = []
 lettersFrom alphabet index (suc n) = letterOf alphabet index ∷ lettersFrom alphabet (index + 1) n
 
--- the digits of the letters of the indexes 0 to 16; 16 is outside both alphabets
+-- a table has the indexes 0 to 16; 16 is outside both alphabets
+abbrev pub tableIndexes : ℕ
+tableIndexes = 17
+
+-- two digits a letter
+abbrev pub tableDigits : ℕ
+tableDigits = 2 * tableIndexes
+
+-- the digits of their letters
 unfoldable pub digitsOf : (alphabet : ℕ) → List ℕ
-digitsOf alphabet = hexOf (lettersFrom alphabet 0 17)
+digitsOf alphabet = hexOf (lettersFrom alphabet 0 tableIndexes)
