@@ -22,7 +22,7 @@ use Rattle.plan.specs.declared.read.Plan.{Plan}
 use Rattle.plan.specs.declared.read.Planned.the-variants.{Whole}
 use Rattle.plan.proofs.PlanLaws.{first-is-aligned, first-is-plain, second-is-aligned, second-is-plain, second-is-absent}
 use Rattle.record.specs.Record.{stepOf, after}
-use Rattle.record.proofs.RecordLaws.{step-taken, said-listed, said-taken, said-first, said-second, said-aligned}
+use Rattle.record.proofs.RecordLaws.{step-taken, said-listed, said-first, said-second, said-aligned}
 use Rattle.listing.specs.Lines.{linesOf, joined}
 use Rattle.listing.specs.Files.{good}
 use Rattle.listing.specs.Listing.{Each, ListingLine, Numbered}

@@ -27,7 +27,7 @@ use Rattle.record.specs.Record.{stepOf}
 use Rattle.record.proofs.RecordLaws.{step-taken, step-accepted}
 use Rattle.listing.specs.Lines.{same}
 use Rattle.listing.specs.Record.{Setup, Accepted, Lawful}
-use Rattle.listing.specs.Listing.{Front, alone, unpaired, ready, line06, onStep, records, onAccepted, stateBehind, firstOf, restOf, LawfulFront, Finished, line05, lastLine}
+use Rattle.listing.specs.Listing.{Front, alone, unpaired, ready, line06, onStep, records, onAccepted, stateBehind, firstOf, restOf, LawfulFront, Finished, lastLine}
 use Rattle.listing.specs.Resuming.{lastFrom}
 use Rattle.listing.proofs.ListingLaws.{not-06, listing-finished}
 use Rattle.decoder.specs.Files.{countsIn, tableOf}

@@ -1,6 +1,6 @@
 -- The laws of a listing's lines: each is well formed, the 04 lines are numbered from 0, the last is an 05 or an 06 line, and 17 stands nowhere.
 -- Assumes nothing.
-use Prim.Native.Nat.{ℕ, zero, suc, _+_, _-_, _*_, _/_, _%_, _≤_, _<_}
+use Prim.Native.Nat.{ℕ, zero, suc, _+_, _-_, _*_, _%_, _≤_, _<_}
 use native.Mathlib.Nat.{zero-add, add-zero}
 use native.Mathlib.Omega.{arith}
 use mathlib.Core.Path.{_≡_, refl, sym, ap, _∙_}
@@ -42,17 +42,6 @@ closing-05 q n = record { digits = line-is-frame mostListed (frame05 q n) (bytes
 closing-06 : (q : ℕ) → ClosingLine kindDone bytes06 (line06 q)
 unfolding line06 be
 closing-06 q = record { digits = line-is-frame mostListed (frame06 q) (bytes-06 q) (lit≤ tt); kind = rw (unhex-line (frame06 q) (bytes-06 q)) refl }
-
--- the bytes that are written for them
-pub made-05 : (q n : ℕ) → (kindRefused % 256) ∷ (q / 256 % 256) ∷ (q % 256) ∷ (n % 256) ∷ [] ≡ frame05 q n
-unfolding be
-made-05 q n = let a : q % 256 ≡ q / 1 % 256 = omega arith in
-    let b : n % 256 ≡ n / 1 % 256 = omega arith in
-    rw (a, b)
-
-pub made-06 : (q : ℕ) → (kindDone % 256) ∷ (q / 256 % 256) ∷ (q % 256) ∷ [] ≡ frame06 q
-unfolding be
-made-06 q = let a : q % 256 ≡ q / 1 % 256 = omega arith in rw a
 
 -- ---- the lines of a listing, each by what it is
 

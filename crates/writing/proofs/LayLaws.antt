@@ -9,9 +9,9 @@ use native.Mathlib.Omega.{arith}
 use lib.ListN.{length, take, drop, set, length-append, length-set, length-drop, take-append-drop, drop-of-length-le}
 use lib.Seq.{take-set-le, sets, sets-eq, take-all, drop-set-add}
 use borrow.Rule.Slice.PartMut.{putMid, midOf}
-use Rattle.frame.specs.Hex.{glyph, hexOf, be}
+use Rattle.frame.specs.Hex.{glyph, hexOf}
 use Rattle.writing.specs.Lay.{lay, Laid}
-use Rattle.frame.proofs.HexLaws.{length-hexOf, length-be}
+use Rattle.frame.proofs.HexLaws.{length-hexOf}
 
 -- ---- lay
 
@@ -81,10 +81,6 @@ laid-room n m f e h = omega (arith, f .to, length-laid f)
 -- room for two pieces is, behind the first, room for the second
 pub room-next : {a b : List ℕ} {at p : ℕ} {xs : List ℕ} (ys : List ℕ) → Laid a b at p xs → at + 2 * length (xs ++ ys) ≤ length a → p + 2 * length ys ≤ length b
 room-next {xs = xs} ys f h = omega (arith, f .to, length-laid f, length-append xs ys)
-
--- behind a number of k bytes
-pub laid-be : {a b : List ℕ} {at p : ℕ} (k n : ℕ) → Laid a b at p (be k n) → (p ≡ at + 2 * k) × (length b ≡ length a)
-laid-be k n f = (omega (arith, f .to, length-be k n), length-laid f)
 
 -- the rest of the line lent on from place a, written from its front: the whole line, written from a
 pub laid-rest : (a : ℕ) (s : List ℕ) (bs : List ℕ) {e : List ℕ} {r : ℕ} → a ≤ length s → Laid (midOf a (length s - a) s) e 0 r bs → Laid s (putMid a (length s - a) s e) a (a + r) bs

@@ -31,7 +31,11 @@ loop-less : tie.Need-loop-less Inv-loop μ-loop
 loop-less c = omega arith
 
 loop-again : tie.Need-loop-again Inv-loop μ-loop
-loop-again c = (omega arith, rw add-one (rest-put (c .before .before .before .before .before .before .loop .inv .1) (drop-cons _ _ 0 (c .before .before .before .before .before .loop-test .taken)) (c .before .before .put-byte .ensures)))
+loop-again c =
+    let at-put-byte = c .before .before in
+    let at-loop-test = at-put-byte .before .before .before in
+    let at-loop = at-loop-test .before in
+    (omega arith, rw add-one (rest-put (at-loop .loop .inv .1) (drop-cons _ _ 0 (at-loop-test .loop-test .taken)) (at-put-byte .put-byte .ensures)))
 
 same-length : tie.Need-same-length Inv-loop μ-loop
 same-length c = c .before .loop .inv .1 .long
