@@ -37,13 +37,23 @@ check-match-requires : tie.Need-check-match-requires Inv-loop μ-loop
 check-match-requires c κs = walk-near (c .before .before .before .loop .inv .0) (omega arith) (omega arith)
 
 returns : tie.Need-returns Inv-loop μ-loop
-returns c = sym (refusal-out _ _ _ _ _ _ _ _ _ _ (c .before .before .before .edit-at .ensures) (c .before .before .before .before .loop-test .taken) (c .before .check-match .ensures) (c .if1 .taken)) ∙ c .before .before .before .before .before .loop .inv .1
+returns c =
+    let at-check-match = c .before in
+    let at-edit-at = at-check-match .before .before in
+    let at-loop-test = at-edit-at .before in
+    let at-loop = at-loop-test .before in
+    sym (refusal-out _ _ _ _ _ _ _ _ _ _ (at-edit-at .edit-at .ensures) (at-loop-test .loop-test .taken) (at-check-match .check-match .ensures) (c .if1 .taken)) ∙ at-loop .loop .inv .1
 
 past-edit-requires : tie.Need-past-edit-requires Inv-loop μ-loop
 past-edit-requires c κs = walk-near (c .before .before .before .before .before .loop .inv .0) (omega arith) (omega arith)
 
 add-at : tie.Need-add-at Inv-loop μ-loop
-add-at c = omega (arith, walk-room _ (c .before .before .before .before .before .before .loop .inv .0) (c .before .before .before .before .before .loop-test .taken) (c .before .before .before .before .before .before .before .before .before .width .ensures), c .before .before .before .before .before .before .before .before .before .before .before .before .good .1 .1 .1 .1 .0)
+add-at c =
+    let at-loop-test = c .before .before .before .before .before in
+    let at-loop = at-loop-test .before in
+    let at-width = at-loop .before .before .before in
+    let at-start = at-width .before .before .before in
+    omega (arith, walk-room _ (at-loop .loop .inv .0) (at-loop-test .loop-test .taken) (at-width .width .ensures), at-start .good .1 .1 .1 .1 .0)
 
 sub-left : tie.Need-sub-left Inv-loop μ-loop
 sub-left c = search needs
@@ -52,7 +62,14 @@ loop-less : tie.Need-loop-less Inv-loop μ-loop
 loop-less c = search needs
 
 loop-again : tie.Need-loop-again Inv-loop μ-loop
-loop-again c = (walk-on _ _ _ _ _ _ _ _ _ (c .before .before .before .before .before .before .loop .inv .0) (c .before .before .before .before .before .loop-test .taken) (omega arith) (c .past-edit .ensures) (c .before .before .before .before .before .before .before .before .before .width .ensures), rw (c .before .before .before .before .before .before .before .before .before .width .ensures, c .past-edit .ensures) (sym (refusal-on _ _ _ _ _ _ _ _ _ _ (c .before .before .before .before .edit-at .ensures) (c .before .before .before .before .before .loop-test .taken) (c .before .before .check-match .ensures) (c .before .if1 .left)) ∙ c .before .before .before .before .before .before .loop .inv .1))
+loop-again c =
+    let at-if1 = c .before in
+    let at-check-match = at-if1 .before in
+    let at-edit-at = at-check-match .before .before in
+    let at-loop-test = at-edit-at .before in
+    let at-loop = at-loop-test .before in
+    let at-width = at-loop .before .before .before in
+    (walk-on _ _ _ _ _ _ _ _ _ (at-loop .loop .inv .0) (at-loop-test .loop-test .taken) (omega arith) (c .past-edit .ensures) (at-width .width .ensures), rw (at-width .width .ensures, c .past-edit .ensures) (sym (refusal-on _ _ _ _ _ _ _ _ _ _ (at-edit-at .edit-at .ensures) (at-loop-test .loop-test .taken) (at-check-match .check-match .ensures) (at-if1 .if1 .left)) ∙ at-loop .loop .inv .1))
 
 check-match-requires-2 : tie.Need-check-match-requires-2 Inv-loop μ-loop
 check-match-requires-2 c κs = walk-near (c .before .loop .inv .0) (omega arith) (omega arith)

@@ -21,13 +21,22 @@ returns : tie.Need-returns
 returns c = laid-none-of _ _ (c .before .before .before .before .put-matched .ensures) (c .if1 .taken)
 
 put-letter-requires : tie.Need-put-letter-requires
-put-letter-requires c κs = room-letter (c .before .before .before .before .before .before .before .before .before .before .args .alphabet) (c .before .before .before .before .before .before .before .before .before .before .args .e) (c .before .before .before .before .before .put-matched .ensures) (c .before .if1 .left) (c .before .before .before .before .before .before .before .before .before .before .pre .1 .1)
+put-letter-requires c κs =
+    let at-if1 = c .before in
+    let at-put-matched = at-if1 .before .before .before .before in
+    let at-start = at-put-matched .before .before .before .before .before in
+    room-letter (at-start .args .alphabet) (at-start .args .e) (at-put-matched .put-matched .ensures) (at-if1 .if1 .left) (at-start .pre .1 .1)
 
 same-length-2 : tie.Need-same-length-2
 same-length-2 c = search needs
 
 returns-2 : tie.Need-returns-2
-returns-2 c = laid-letter-of _ _ (c .before .before .before .before .before .before .before .before .put-matched .ensures) (c .before .before .before .before .if1 .left) refl refl (laid-letter _ _ (c .before .before .before .before .before .before .before .before .before .before .before .before .before .pre .0) (c .before .before .put-letter .ensures .0) (c .before .before .put-letter .ensures .1))
+returns-2 c =
+    let at-put-letter = c .before .before in
+    let at-if1 = at-put-letter .before .before in
+    let at-put-matched = at-if1 .before .before .before .before in
+    let at-start = at-put-matched .before .before .before .before .before in
+    laid-letter-of _ _ (at-put-matched .put-matched .ensures) (at-if1 .if1 .left) refl refl (laid-letter _ _ (at-start .pre .0) (at-put-letter .put-letter .ensures .0) (at-put-letter .put-letter .ensures .1))
 
 pub put-edit-spec : {M : Type 1} → statement M
 put-edit-spec =

@@ -26,19 +26,41 @@ add-end : tie.Need-add-end
 add-end c = omega (arith, least-below _ _ (c .before .before .inside .ensures), c .before .before .before .before .before .before .before .before .good .1 .1 .1 .1 .1 .1 .0)
 
 put-letters-requires : tie.Need-put-letters-requires
-put-letters-requires c κs = (omega arith, room-left _ _ _ _ _ _ (c .before .before .before .before .before .before .before .before .before .args .block) (c .before .before .before .inside .ensures) (c .before .before .before .before .mapped-length .ensures) (c .before .before .before .before .before .before .before .before .before .args .out .now) _ (c .before .before .before .before .before .before .before .before .before .pre))
+put-letters-requires c κs =
+    let at-inside = c .before .before .before in
+    let at-mapped-length = at-inside .before in
+    let at-start = at-mapped-length .before .before .before .before .before in
+    (omega arith, room-left _ _ _ _ _ _ (at-start .args .block) (at-inside .inside .ensures) (at-mapped-length .mapped-length .ensures) (at-start .args .out .now) _ (at-start .pre))
 
 put-mapped-requires : tie.Need-put-mapped-requires
-put-mapped-requires c κs = room-mapped _ _ _ _ _ _ (c .before .before .before .before .before .before .before .before .before .before .before .before .before .args .block) (c .before .before .before .before .before .before .before .inside .ensures) (c .before .before .before .before .before .before .before .before .mapped-length .ensures) _ _ (c .before .before .before .before .before .before .before .before .before .before .before .before .before .pre) (c .before .before .before .put-letters .ensures)
+put-mapped-requires c κs =
+    let at-put-letters = c .before .before .before in
+    let at-inside = at-put-letters .before .before .before .before in
+    let at-mapped-length = at-inside .before in
+    let at-start = at-mapped-length .before .before .before .before .before in
+    room-mapped _ _ _ _ _ _ (at-start .args .block) (at-inside .inside .ensures) (at-mapped-length .mapped-length .ensures) _ _ (at-start .pre) (at-put-letters .put-letters .ensures)
 
 put-letters-requires-2 : tie.Need-put-letters-requires-2
-put-letters-requires-2 c κs = (omega arith, room-right _ _ _ _ _ _ (c .before .before .before .before .before .before .before .before .before .before .before .before .before .before .before .before .before .args .block) (c .before .before .before .before .before .before .before .before .before .before .before .inside .ensures) (c .before .before .before .before .before .before .before .before .before .before .before .before .mapped-length .ensures) _ _ (c .before .before .before .before .before .before .before .before .before .before .before .before .before .before .before .before .before .pre) (c .before .before .before .before .before .before .before .put-letters .ensures) (c .before .before .before .put-mapped .ensures))
+put-letters-requires-2 c κs =
+    let at-put-mapped = c .before .before .before in
+    let at-put-letters = at-put-mapped .before .before .before .before in
+    let at-inside = at-put-letters .before .before .before .before in
+    let at-mapped-length = at-inside .before in
+    let at-start = at-mapped-length .before .before .before .before .before in
+    (omega arith, room-right _ _ _ _ _ _ (at-start .args .block) (at-inside .inside .ensures) (at-mapped-length .mapped-length .ensures) _ _ (at-start .pre) (at-put-letters .put-letters .ensures) (at-put-mapped .put-mapped .ensures))
 
 same-length : tie.Need-same-length
 same-length c = search needs
 
 returns : tie.Need-returns
-returns c = laid-as (text-pieces _ _ _ _ _ _ (c .before .before .before .before .before .before .before .before .before .before .before .before .before .before .before .before .before .before .before .before .args .block) (c .before .before .before .before .before .before .before .before .before .before .before .before .before .before .inside .ensures) (c .before .before .before .before .before .before .before .before .before .before .before .before .before .before .before .mapped-length .ensures)) (laid-then (laid-then (c .before .before .before .before .before .before .before .before .before .before .put-letters .ensures) (c .before .before .before .before .before .before .put-mapped .ensures)) (c .before .before .put-letters2 .ensures))
+returns c =
+    let at-put-letters2 = c .before .before in
+    let at-put-mapped = at-put-letters2 .before .before .before .before in
+    let at-put-letters = at-put-mapped .before .before .before .before in
+    let at-inside = at-put-letters .before .before .before .before in
+    let at-mapped-length = at-inside .before in
+    let at-start = at-mapped-length .before .before .before .before .before in
+    laid-as (text-pieces _ _ _ _ _ _ (at-start .args .block) (at-inside .inside .ensures) (at-mapped-length .mapped-length .ensures)) (laid-then (laid-then (at-put-letters .put-letters .ensures) (at-put-mapped .put-mapped .ensures)) (at-put-letters2 .put-letters2 .ensures))
 
 pub write-spec : {M : Type 1} → statement M
 write-spec =

@@ -23,7 +23,12 @@ same-length-2 : tie.Need-same-length-2
 same-length-2 c = search needs
 
 returns-2 : tie.Need-returns-2
-returns-2 c = last-done _ _ _ _ _ _ (c .before .before .before .before .before .all-taken .ensures) (c .before .before .before .before .before .before .before .if1 .left) (c .before .before .before .before .if2 .taken) (c .before .before .finish .ensures)
+returns-2 c =
+    let at-finish = c .before .before in
+    let at-if2 = at-finish .before .before in
+    let at-all-taken = at-if2 .before in
+    let at-if1 = at-all-taken .before .before in
+    last-done _ _ _ _ _ _ (at-all-taken .all-taken .ensures) (at-if1 .if1 .left) (at-if2 .if2 .taken) (at-finish .finish .ensures)
 
 refuse-requires-2 : tie.Need-refuse-requires-2
 refuse-requires-2 c κs = search needs
@@ -32,7 +37,12 @@ same-length-3 : tie.Need-same-length-3
 same-length-3 c = search needs
 
 returns-3 : tie.Need-returns-3
-returns-3 c = last-left _ _ _ _ _ _ (c .before .before .before .before .before .all-taken .ensures) (c .before .before .before .before .before .before .before .if1 .left) (c .before .before .before .before .if2 .left) (c .before .before .refuse2 .ensures)
+returns-3 c =
+    let at-refuse2 = c .before .before in
+    let at-if2 = at-refuse2 .before .before in
+    let at-all-taken = at-if2 .before in
+    let at-if1 = at-all-taken .before .before in
+    last-left _ _ _ _ _ _ (at-all-taken .all-taken .ensures) (at-if1 .if1 .left) (at-if2 .if2 .left) (at-refuse2 .refuse2 .ensures)
 
 pub last-turn-spec : {M : Type 1} → statement M
 last-turn-spec =

@@ -42,15 +42,26 @@ same-length-2 : tie.Need-same-length-2
 same-length-2 c = search needs
 
 returns-2 : tie.Need-returns-2
-returns-2 c = let start = c .before .before .before .before .before .before .before .before .before .before .before .before .before .before in
-    record-listed _ _ _ _ _ _ _ (c .before .before .before .before .before .before .before .before .if1 .left) (eight start) (start .pre) (c .before .before .before .before .before .before .«record» .ensures) _ (c .before .answer .given .1)
+returns-2 c =
+    let at-answer = c .before in
+    let at-record = at-answer .before .before .before .before .before in
+    let at-if1 = at-record .before .before in
+    let at-before = at-if1 .before .before .before .before .before in
+    let start = at-before .before in
+    record-listed _ _ _ _ _ _ _ (at-if1 .if1 .left) (eight start) (start .pre) (at-record .«record» .ensures) _ (at-answer .answer .given .1)
 
 same-length-3 : tie.Need-same-length-3
 same-length-3 c = search needs
 
 returns-3 : tie.Need-returns-3
-returns-3 c = let start = c .before .before .before .before .before .before .before .before .before .before .before .before .before .before .before .before .before .before in
-    record-refused _ _ _ _ _ _ _ (c .before .before .before .before .before .before .before .before .before .before .before .before .if1 .left) (eight start) (start .pre) (c .before .before .before .before .before .before .before .before .before .before .«record» .ensures) _ (c .before .before .before .before .before .answer2 .given .1) (c .before .before .refuse2 .ensures)
+returns-3 c =
+    let at-refuse2 = c .before .before in
+    let at-answer2 = at-refuse2 .before .before .before in
+    let at-record = at-answer2 .before .before .before .before .before in
+    let at-if1 = at-record .before .before in
+    let at-before = at-if1 .before .before .before .before .before in
+    let start = at-before .before in
+    record-refused _ _ _ _ _ _ _ (at-if1 .if1 .left) (eight start) (start .pre) (at-record .«record» .ensures) _ (at-answer2 .answer2 .given .1) (at-refuse2 .refuse2 .ensures)
 
 pub record-turn-spec : {M : Type 1} → statement M
 record-turn-spec =

@@ -14,7 +14,11 @@ same-length : tie.Need-same-length
 same-length c = search needs
 
 returns-2 : tie.Need-returns-2
-returns-2 c = turn-record _ _ _ _ _ _ _ (c .before .before .before .before .before .before .before .if1 .left) (c .before .before .before .before .if2 .taken) (c .before .before .record-turn .ensures)
+returns-2 c =
+    let at-record-turn = c .before .before in
+    let at-if2 = at-record-turn .before .before in
+    let at-if1 = at-if2 .before .before .before in
+    turn-record _ _ _ _ _ _ _ (at-if1 .if1 .left) (at-if2 .if2 .taken) (at-record-turn .record-turn .ensures)
 
 last-turn-requires : tie.Need-last-turn-requires
 last-turn-requires c κs = search needs
@@ -23,7 +27,11 @@ same-length-2 : tie.Need-same-length-2
 same-length-2 c = search needs
 
 returns-3 : tie.Need-returns-3
-returns-3 c = turn-last _ _ _ _ _ _ _ (c .before .before .before .before .before .before .before .if1 .left) (c .before .before .before .before .if2 .left) (c .before .before .last-turn .ensures)
+returns-3 c =
+    let at-last-turn = c .before .before in
+    let at-if2 = at-last-turn .before .before in
+    let at-if1 = at-if2 .before .before .before in
+    turn-last _ _ _ _ _ _ _ (at-if1 .if1 .left) (at-if2 .if2 .left) (at-last-turn .last-turn .ensures)
 
 pub turn-spec : {M : Type 1} → statement M
 turn-spec =

@@ -70,7 +70,10 @@ part-place-start : tie.Need-part-place-start
 part-place-start c = search needs
 
 part-place-end : tie.Need-part-place-end
-part-place-end c = let h = first-within _ _ _ (sym (c .before .before .before .before .before .before .write-first .ensures .0) ∙ c .before .before .before .n .given .1) in omega (arith, c .before .before .before .before .before .before .write-first .kept .0)
+part-place-end c =
+    let at-n = c .before .before .before in
+    let at-write-first = at-n .before .before .before in
+    let h = first-within _ _ _ (sym (at-write-first .write-first .ensures .0) ∙ at-n .n .given .1) in omega (arith, at-write-first .write-first .kept .0)
 
 sub-place-2 : tie.Need-sub-place-2
 sub-place-2 c = search needs
@@ -79,7 +82,10 @@ part-place-start-2 : tie.Need-part-place-start-2
 part-place-start-2 c = search needs
 
 part-place-end-2 : tie.Need-part-place-end-2
-part-place-end-2 c = rw (c .before .before .before .before .before .before .before .before .before .before .before .before .before .before .before .before .before .a .given .1) at (c .before .before .before .before .before .before .before .before .before .before .before .before .before .before .before .before .before .before .before .before .read-edge .ensures)
+part-place-end-2 c =
+    let at-a = c .before .before .before .before .before .before .before .before .before .before .before .before .before .before .before .before .before in
+    let at-read-edge = at-a .before .before .before in
+    rw (at-a .a .given .1) at (at-read-edge .read-edge .ensures)
 
 sub-place-3 : tie.Need-sub-place-3
 sub-place-3 c = search needs
@@ -88,7 +94,10 @@ part-place-start-3 : tie.Need-part-place-start-3
 part-place-start-3 c = search needs
 
 part-place-end-3 : tie.Need-part-place-end-3
-part-place-end-3 c = rw (c .before .before .before .before .before .before .before .before .before .before .before .before .before .z .given .1) at (c .before .before .before .before .before .before .before .before .before .before .before .before .before .before .before .before .read-edge2 .ensures)
+part-place-end-3 c =
+    let at-z = c .before .before .before .before .before .before .before .before .before .before .before .before .before in
+    let at-read-edge2 = at-z .before .before .before in
+    rw (at-z .z .given .1) at (at-read-edge2 .read-edge2 .ensures)
 
 place-requires : tie.Need-place-requires
 place-requires c κs = search needs

@@ -66,7 +66,9 @@ shared-slice-read-v c = search needs
 
 add-next : tie.Need-add-next
 add-next c =
-    omega (arith, c .before .before .before .shared-slice-known3 .given (c .before .before .before .before .before .before .before .before .before .args .s))
+    let at-shared-slice-known3 = c .before .before .before in
+    let at-start = at-shared-slice-known3 .before .before .before .before .before .before in
+    omega (arith, at-shared-slice-known3 .shared-slice-known3 .given (at-start .args .s))
 
 mul-next : tie.Need-mul-next
 mul-next c = search needs

@@ -28,16 +28,33 @@ enum-known-planned-2 : tie.Need-enum-known-planned-2
 enum-known-planned-2 c = search needs
 
 settle-requires : tie.Need-settle-requires
-settle-requires c κs = let a = c .before .before .before .before .before .before .before .before .before .before .before .before .before .args in (line-ready (a .unit) (now (a .reference)) (now (a .symbols)) (now (a .counts)) (a .state) (c .before .before .before .before .before .before .before .refusal-of .ensures) (now (a .line)) (c .before .before .before .before .before .before .if1 .left) (c .before .before .before .before .before .read .ensures) (c .before .before .planned2 .given .1), number-fits (a .unit) (now (a .reference)) (now (a .symbols)) (now (a .counts)) (a .state) (c .before .before .before .before .before .before .before .refusal-of .ensures) (c .before .before .before .before .before .before .if1 .left))
+settle-requires c κs =
+    let at-planned2 = c .before .before in
+    let at-read = at-planned2 .before .before .before in
+    let at-if1 = at-read .before in
+    let at-refusal-of = at-if1 .before in
+    let at-start = at-refusal-of .before .before .before .before .before .before in
+    let a = at-start .args in (line-ready (a .unit) (now (a .reference)) (now (a .symbols)) (now (a .counts)) (a .state) (at-refusal-of .refusal-of .ensures) (now (a .line)) (at-if1 .if1 .left) (at-read .read .ensures) (at-planned2 .planned2 .given .1), number-fits (a .unit) (now (a .reference)) (now (a .symbols)) (now (a .counts)) (a .state) (at-refusal-of .refusal-of .ensures) (at-if1 .if1 .left))
 
 returns-2 : tie.Need-returns-2
-returns-2 c = rw (lent-accepted _ _ _ _ _ (c .before .before .before .before .before .before .before .refusal-of .ensures) _ _ (c .before .before .before .before .before .before .if1 .left) (c .before .before .before .before .before .read .ensures), c .before .before .planned .given .1) (c .refused2 .ensures, refl)
+returns-2 c =
+    let at-planned = c .before .before in
+    let at-read = at-planned .before .before .before in
+    let at-if1 = at-read .before in
+    let at-refusal-of = at-if1 .before in
+    rw (lent-accepted _ _ _ _ _ (at-refusal-of .refusal-of .ensures) _ _ (at-if1 .if1 .left) (at-read .read .ensures), at-planned .planned .given .1) (c .refused2 .ensures, refl)
 
 same-length : tie.Need-same-length
 same-length c = search needs
 
 returns-3 : tie.Need-returns-3
-returns-3 c = rw (lent-accepted _ _ _ _ _ (c .before .before .before .before .before .before .before .before .before .before .refusal-of .ensures) _ _ (c .before .before .before .before .before .before .before .before .before .if1 .left) (c .before .before .before .before .before .before .before .before .read .ensures), c .before .before .before .before .before .planned2 .given .1) (c .before .before .settle .ensures)
+returns-3 c =
+    let at-settle = c .before .before in
+    let at-planned2 = at-settle .before .before .before in
+    let at-read = at-planned2 .before .before .before in
+    let at-if1 = at-read .before in
+    let at-refusal-of = at-if1 .before in
+    rw (lent-accepted _ _ _ _ _ (at-refusal-of .refusal-of .ensures) _ _ (at-if1 .if1 .left) (at-read .read .ensures), at-planned2 .planned2 .given .1) (at-settle .settle .ensures)
 
 pub record-spec : {M : Type 1} → statement M
 record-spec =

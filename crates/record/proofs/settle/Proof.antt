@@ -53,16 +53,32 @@ refused-requires : tie.Need-refused-requires
 refused-requires c κs = search needs
 
 returns : tie.Need-returns
-returns c = let s = c .before .before .before .before .before .before .before in let w = no-room (s .args .state) (next s) (now (s .args .out)) (bytes s) (omega (arith, long s, c .before .before .before .bytes .ensures, c .before .before .bytes2 .ensures, c .before .if1 .taken)) in (c .refused .ensures ∙ w .0, w .1)
+returns c =
+    let at-if1 = c .before in
+    let at-bytes2 = at-if1 .before in
+    let at-bytes = at-bytes2 .before in
+    let at-before = at-bytes .before .before .before in
+    let s = at-before .before in let w = no-room (s .args .state) (next s) (now (s .args .out)) (bytes s) (omega (arith, long s, at-bytes .bytes .ensures, at-bytes2 .bytes2 .ensures, at-if1 .if1 .taken)) in (c .refused .ensures ∙ w .0, w .1)
 
 add-next : tie.Need-add-next
 add-next c = search needs
 
 write-requires : tie.Need-write-requires
-write-requires c κs = let s = c .before .before .before .before .before .before .before .before in (s .pre .0, omega (arith, long s, c .before .before .before .before .bytes .ensures, c .before .before .before .bytes2 .ensures, c .before .before .if1 .left))
+write-requires c κs =
+    let at-if1 = c .before .before in
+    let at-bytes2 = at-if1 .before in
+    let at-bytes = at-bytes2 .before in
+    let at-before = at-bytes .before .before .before in
+    let s = at-before .before in (s .pre .0, omega (arith, long s, at-bytes .bytes .ensures, at-bytes2 .bytes2 .ensures, at-if1 .if1 .left))
 
 slice-write-out : tie.Need-slice-write-out
-slice-write-out c = let s = c .before .before .before .before .before .before .before .before .before .before .before in omega (arith, long s, c .before .before .before .before .before .before .before .bytes .ensures, c .before .before .before .before .before .before .bytes2 .ensures, c .before .before .before .before .before .if1 .left, c .before .before .write .ensures .to, length-laid {xs = bytes s} (c .before .before .write .ensures))
+slice-write-out c =
+    let at-write = c .before .before in
+    let at-if1 = at-write .before .before .before in
+    let at-bytes2 = at-if1 .before in
+    let at-bytes = at-bytes2 .before in
+    let at-before = at-bytes .before .before .before in
+    let s = at-before .before in omega (arith, long s, at-bytes .bytes .ensures, at-bytes2 .bytes2 .ensures, at-if1 .if1 .left, at-write .write .ensures .to, length-laid {xs = bytes s} (at-write .write .ensures))
 
 add-t14 : tie.Need-add-t14
 add-t14 c = search needs
@@ -71,7 +87,13 @@ same-length : tie.Need-same-length
 same-length c = simp length-set (length-laid (c .before .before .write .ensures))
 
 returns-2 : tie.Need-returns-2
-returns-2 c = let s = c .before .before .before .before .before .before .before .before .before .before .before in room (s .args .state) (next s) _ (bytes s) (omega (arith, long s, c .before .before .before .before .before .before .before .bytes .ensures, c .before .before .before .before .before .before .bytes2 .ensures, c .before .before .before .before .before .if1 .left)) (c .before .before .write .ensures)
+returns-2 c =
+    let at-write = c .before .before in
+    let at-if1 = at-write .before .before .before in
+    let at-bytes2 = at-if1 .before in
+    let at-bytes = at-bytes2 .before in
+    let at-before = at-bytes .before .before .before in
+    let s = at-before .before in room (s .args .state) (next s) _ (bytes s) (omega (arith, long s, at-bytes .bytes .ensures, at-bytes2 .bytes2 .ensures, at-if1 .if1 .left)) (at-write .write .ensures)
 
 pub settle-spec : {M : Type 1} → statement M
 settle-spec =

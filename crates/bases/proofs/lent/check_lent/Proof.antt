@@ -27,7 +27,12 @@ wide-requires : tie.Need-wide-requires Inv-loop μ-loop
 wide-requires c κs = search needs
 
 returns : tie.Need-returns Inv-loop μ-loop
-returns c = sym (symbols-out _ _ _ _ (c .before .before .before .before .before .size .ensures) (c .before .wide .ensures) (c .before .before .before .loop-test .taken) (omega arith)) ∙ c .before .before .before .before .loop .inv
+returns c =
+    let at-wide = c .before in
+    let at-loop-test = at-wide .before .before in
+    let at-loop = at-loop-test .before in
+    let at-size = at-loop .before in
+    sym (symbols-out _ _ _ _ (at-size .size .ensures) (at-wide .wide .ensures) (at-loop-test .loop-test .taken) (omega arith)) ∙ at-loop .loop .inv
 
 add-i : tie.Need-add-i Inv-loop μ-loop
 add-i c = search needs
@@ -36,7 +41,12 @@ loop-less : tie.Need-loop-less Inv-loop μ-loop
 loop-less c = search needs
 
 loop-again : tie.Need-loop-again Inv-loop μ-loop
-loop-again c = sym (symbols-on _ _ _ _ (c .before .before .before .before .before .size .ensures) (c .before .wide .ensures) (c .before .before .before .loop-test .taken) (c .if1 .left)) ∙ c .before .before .before .before .loop .inv
+loop-again c =
+    let at-wide = c .before in
+    let at-loop-test = at-wide .before .before in
+    let at-loop = at-loop-test .before in
+    let at-size = at-loop .before in
+    sym (symbols-on _ _ _ _ (at-size .size .ensures) (at-wide .wide .ensures) (at-loop-test .loop-test .taken) (c .if1 .left)) ∙ at-loop .loop .inv
 
 returns-2 : tie.Need-returns-2 Inv-loop μ-loop
 returns-2 c = sym (symbols-end _ _ _ _ (c .loop-test .left)) ∙ c .before .loop .inv

@@ -38,19 +38,52 @@ sub-behind-3 : tie.Need-sub-behind-3
 sub-behind-3 c = let s = split _ _ _ _ (c .before .before .before .before .between .ensures) (c .before .before .before .least .ensures) (c .before .before .lent-before .ensures) (c .lent-before2 .ensures) in omega (arith, s .order, s .fits)
 
 put-padding-requires : tie.Need-put-padding-requires
-put-padding-requires c κs = let s = split _ _ _ _ (c .before .before .before .before .before .between .ensures) (c .before .before .before .before .least .ensures) (c .before .before .before .lent-before .ensures) (c .before .lent-before2 .ensures) in omega (arith, s .fits, c .before .before .before .before .before .before .before .before .until .ensures, c .before .before .before .before .before .before .before .before .before .before .before .pre .1)
+put-padding-requires c κs =
+    let at-lent-before2 = c .before in
+    let at-lent-before = at-lent-before2 .before .before in
+    let at-least = at-lent-before .before in
+    let at-between = at-least .before in
+    let at-until = at-between .before .before .before in
+    let at-start = at-until .before .before .before in
+    let s = split _ _ _ _ (at-between .between .ensures) (at-least .least .ensures) (at-lent-before .lent-before .ensures) (at-lent-before2 .lent-before2 .ensures) in omega (arith, s .fits, at-until .until .ensures, at-start .pre .1)
 
 put-lent-requires : tie.Need-put-lent-requires
-put-lent-requires c κs = let s = (split _ _ _ _ (c .before .before .before .before .before .before .before .before .before .between .ensures) (c .before .before .before .before .before .before .before .before .least .ensures) (c .before .before .before .before .before .before .before .lent-before .ensures) (c .before .before .before .before .before .lent-before2 .ensures)) in ((s .order, s .room), room-lent s (omega (arith, c .before .before .before .before .before .before .before .before .before .before .before .before .until .ensures, c .before .before .before .before .before .before .before .before .before .before .before .before .before .before .before .pre .1)) (c .before .before .before .put-padding .ensures))
+put-lent-requires c κs =
+    let at-put-padding = c .before .before .before in
+    let at-lent-before2 = at-put-padding .before .before in
+    let at-lent-before = at-lent-before2 .before .before in
+    let at-least = at-lent-before .before in
+    let at-between = at-least .before in
+    let at-until = at-between .before .before .before in
+    let at-start = at-until .before .before .before in
+    let s = (split _ _ _ _ (at-between .between .ensures) (at-least .least .ensures) (at-lent-before .lent-before .ensures) (at-lent-before2 .lent-before2 .ensures)) in ((s .order, s .room), room-lent s (omega (arith, at-until .until .ensures, at-start .pre .1)) (at-put-padding .put-padding .ensures))
 
 put-padding-requires-2 : tie.Need-put-padding-requires-2
-put-padding-requires-2 c κs = room-behind (split _ _ _ _ (c .before .before .before .before .before .before .before .before .before .before .before .before .before .between .ensures) (c .before .before .before .before .before .before .before .before .before .before .before .before .least .ensures) (c .before .before .before .before .before .before .before .before .before .before .before .lent-before .ensures) (c .before .before .before .before .before .before .before .before .before .lent-before2 .ensures)) (omega (arith, c .before .before .before .before .before .before .before .before .before .before .before .before .before .before .before .before .until .ensures, c .before .before .before .before .before .before .before .before .before .before .before .before .before .before .before .before .before .before .before .pre .1)) (c .before .before .before .before .before .before .before .put-padding .ensures) _ _ (c .before .before .before .put-lent .ensures)
+put-padding-requires-2 c κs =
+    let at-put-lent = c .before .before .before in
+    let at-put-padding = at-put-lent .before .before .before .before in
+    let at-lent-before2 = at-put-padding .before .before in
+    let at-lent-before = at-lent-before2 .before .before in
+    let at-least = at-lent-before .before in
+    let at-between = at-least .before in
+    let at-until = at-between .before .before .before in
+    let at-start = at-until .before .before .before in
+    room-behind (split _ _ _ _ (at-between .between .ensures) (at-least .least .ensures) (at-lent-before .lent-before .ensures) (at-lent-before2 .lent-before2 .ensures)) (omega (arith, at-until .until .ensures, at-start .pre .1)) (at-put-padding .put-padding .ensures) _ _ (at-put-lent .put-lent .ensures)
 
 same-length : tie.Need-same-length
 same-length c = search needs
 
 returns-2 : tie.Need-returns-2
-returns-2 c = rw (← c .before .before .before .before .before .before .before .before .before .before .before .before .before .before .before .before .before .before .before .until .ensures) (laid-matched _ _ _ _ _ (c .before .before .before .before .before .before .before .before .before .before .put-padding .ensures) (c .before .before .before .before .before .before .put-lent .ensures) (c .before .before .put-padding2 .ensures) (split _ _ _ _ (c .before .before .before .before .before .before .before .before .before .before .before .before .before .before .before .before .between .ensures) (c .before .before .before .before .before .before .before .before .before .before .before .before .before .before .before .least .ensures) (c .before .before .before .before .before .before .before .before .before .before .before .before .before .before .lent-before .ensures) (c .before .before .before .before .before .before .before .before .before .before .before .before .lent-before2 .ensures)))
+returns-2 c =
+    let at-put-padding2 = c .before .before in
+    let at-put-lent = at-put-padding2 .before .before .before .before in
+    let at-put-padding = at-put-lent .before .before .before .before in
+    let at-lent-before2 = at-put-padding .before .before in
+    let at-lent-before = at-lent-before2 .before .before in
+    let at-least = at-lent-before .before in
+    let at-between = at-least .before in
+    let at-until = at-between .before .before .before in
+    rw (← at-until .until .ensures) (laid-matched _ _ _ _ _ (at-put-padding .put-padding .ensures) (at-put-lent .put-lent .ensures) (at-put-padding2 .put-padding2 .ensures) (split _ _ _ _ (at-between .between .ensures) (at-least .least .ensures) (at-lent-before .lent-before .ensures) (at-lent-before2 .lent-before2 .ensures)))
 
 pub put-matched-spec : {M : Type 1} → statement M
 put-matched-spec =

@@ -31,7 +31,14 @@ wide-requires : tie.Need-wide-requires Inv-loop μ-loop
 wide-requires c κs = tt
 
 returns-2 : tie.Need-returns-2 Inv-loop μ-loop
-returns-2 c = sym (symbols-out _ _ _ _ _ (c .before .before .before .before .loop-test .taken) (rw length-unhex (c .before .before .before .if1 .left)) (rw (← c .before .before .before .before .before .before .size .ensures, ← c .before .before .byte-at .ensures, ← c .before .wide .ensures) (c .if2 .taken))) ∙ c .before .before .before .before .before .loop .inv .1
+returns-2 c =
+    let at-wide = c .before in
+    let at-byte-at = at-wide .before in
+    let at-if1 = at-byte-at .before in
+    let at-loop-test = at-if1 .before in
+    let at-loop = at-loop-test .before in
+    let at-size = at-loop .before in
+    sym (symbols-out _ _ _ _ _ (at-loop-test .loop-test .taken) (rw length-unhex (at-if1 .if1 .left)) (rw (← at-size .size .ensures, ← at-byte-at .byte-at .ensures, ← at-wide .wide .ensures) (c .if2 .taken))) ∙ at-loop .loop .inv .1
 
 add-at : tie.Need-add-at Inv-loop μ-loop
 add-at c = omega arith
@@ -43,7 +50,14 @@ loop-less : tie.Need-loop-less Inv-loop μ-loop
 loop-less c = omega arith
 
 loop-again : tie.Need-loop-again Inv-loop μ-loop
-loop-again c = (omega arith, sym (symbols-on _ _ _ _ _ (c .before .before .before .before .loop-test .taken) (rw length-unhex (c .before .before .before .if1 .left)) (rw (← c .before .before .before .before .before .before .size .ensures, ← c .before .before .byte-at .ensures, ← c .before .wide .ensures) (c .if2 .left))) ∙ c .before .before .before .before .before .loop .inv .1)
+loop-again c =
+    let at-wide = c .before in
+    let at-byte-at = at-wide .before in
+    let at-if1 = at-byte-at .before in
+    let at-loop-test = at-if1 .before in
+    let at-loop = at-loop-test .before in
+    let at-size = at-loop .before in
+    (omega arith, sym (symbols-on _ _ _ _ _ (at-loop-test .loop-test .taken) (rw length-unhex (at-if1 .if1 .left)) (rw (← at-size .size .ensures, ← at-byte-at .byte-at .ensures, ← at-wide .wide .ensures) (c .if2 .left))) ∙ at-loop .loop .inv .1)
 
 returns-3 : tie.Need-returns-3 Inv-loop μ-loop
 returns-3 c = sym (symbols-end _ _ _ _ _ (c .loop-test .left)) ∙ c .before .loop .inv .1

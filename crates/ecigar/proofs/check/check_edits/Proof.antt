@@ -32,7 +32,13 @@ ends-within-requires : tie.Need-ends-within-requires Inv-loop μ-loop
 ends-within-requires c κs = tt
 
 returns : tie.Need-returns Inv-loop μ-loop
-returns c = sym (check-short _ _ _ _ _ _ _ _ _ (c .before .before .before .before .before .before .width .ensures) (c .before .before .before .before .before .size .ensures) (c .before .before .loop-test .taken) (sym (c .if1 .taken) ∙ c .before .ends-within .ensures)) ∙ c .before .before .before .loop .inv .1
+returns c =
+    let at-ends-within = c .before in
+    let at-loop-test = at-ends-within .before in
+    let at-loop = at-loop-test .before in
+    let at-size = at-loop .before .before in
+    let at-width = at-size .before in
+    sym (check-short _ _ _ _ _ _ _ _ _ (at-width .width .ensures) (at-size .size .ensures) (at-loop-test .loop-test .taken) (sym (c .if1 .taken) ∙ at-ends-within .ends-within .ensures)) ∙ at-loop .loop .inv .1
 
 edit-at-requires : tie.Need-edit-at-requires Inv-loop μ-loop
 edit-at-requires c κs = tt
@@ -42,21 +48,38 @@ refusal-of-requires c κs = tt
 
 returns-2 : tie.Need-returns-2 Inv-loop μ-loop
 returns-2 c =
-    let wide = c .before .before .before .before .before .before .before .before .before .before .width .ensures in
-    let size = c .before .before .before .before .before .before .before .before .before .size .ensures in
-    let whole = sym (c .before .before .before .before .if1 .left) ∙ c .before .before .before .before .before .ends-within .ensures in
-    sym (check-out _ _ _ _ _ _ _ _ _ wide size (c .before .before .before .before .before .before .loop-test .taken) _ (c .before .before .before .edit-at .ensures) whole _ (c .before .refusal-of .ensures) (c .if2 .taken)) ∙ c .before .before .before .before .before .before .before .loop .inv .1
+    let at-refusal-of = c .before in
+    let at-edit-at = at-refusal-of .before .before in
+    let at-if1 = at-edit-at .before in
+    let at-ends-within = at-if1 .before in
+    let at-loop-test = at-ends-within .before in
+    let at-loop = at-loop-test .before in
+    let at-size = at-loop .before .before in
+    let at-width = at-size .before in
+    let wide = at-width .width .ensures in
+    let size = at-size .size .ensures in
+    let whole = sym (at-if1 .if1 .left) ∙ at-ends-within .ends-within .ensures in
+    sym (check-out _ _ _ _ _ _ _ _ _ wide size (at-loop-test .loop-test .taken) _ (at-edit-at .edit-at .ensures) whole _ (at-refusal-of .refusal-of .ensures) (c .if2 .taken)) ∙ at-loop .loop .inv .1
 
 take-edit-requires : tie.Need-take-edit-requires Inv-loop μ-loop
 take-edit-requires c κs =
-    let a = accepted _ _ _ _ (sym (c .before .refusal-of .ensures) ∙ c .if2 .left) in
-    let g = c .before .before .before .before .before .before .before .loop .inv .0 in
-    omega (arith, a .order, g .next, g .run, g .taken, g .text, c .before .before .before .before .before .before .loop-test .taken, c .before .before .before .before .before .before .before .before .before .before .before .before .pre)
+    let at-refusal-of = c .before in
+    let at-loop-test = at-refusal-of .before .before .before .before .before in
+    let at-loop = at-loop-test .before in
+    let at-start = at-loop .before .before .before .before .before in
+    let a = accepted _ _ _ _ (sym (at-refusal-of .refusal-of .ensures) ∙ c .if2 .left) in
+    let g = at-loop .loop .inv .0 in
+    omega (arith, a .order, g .next, g .run, g .taken, g .text, at-loop-test .loop-test .taken, at-start .pre)
 
 add-at : tie.Need-add-at Inv-loop μ-loop
 add-at c =
-    let whole = sym (c .before .before .before .before .before .if1 .left) ∙ c .before .before .before .before .before .before .ends-within .ensures in
-    omega (arith, ends-room (c .before .before .before .before .before .before .before .before .before .before .before .before .before .args .line .now) (c .before .before .before .before .before .before .before .before .loop .at) (c .before .before .before .before .before .before .before .before .before .before .before .width .result) whole)
+    let at-if1 = c .before .before .before .before .before in
+    let at-ends-within = at-if1 .before in
+    let at-loop = at-ends-within .before .before in
+    let at-width = at-loop .before .before .before in
+    let at-start = at-width .before .before in
+    let whole = sym (at-if1 .if1 .left) ∙ at-ends-within .ends-within .ensures in
+    omega (arith, ends-room (at-start .args .line .now) (at-loop .loop .at) (at-width .width .result) whole)
 
 sub-left : tie.Need-sub-left Inv-loop μ-loop
 sub-left c = omega arith
@@ -66,13 +89,22 @@ loop-less c = omega arith
 
 loop-again : tie.Need-loop-again Inv-loop μ-loop
 loop-again c =
-    let z = sym (c .before .before .refusal-of .ensures) ∙ c .before .if2 .left in
-    let wide = c .before .before .before .before .before .before .before .before .before .before .before .width .ensures in
-    let size = c .before .before .before .before .before .before .before .before .before .before .size .ensures in
-    let whole = sym (c .before .before .before .before .before .if1 .left) ∙ c .before .before .before .before .before .before .ends-within .ensures in
-    let more = c .before .before .before .before .before .before .before .loop-test .taken in (
-      within-on _ _ _ _ _ _ _ (c .before .before .before .before .before .before .before .before .loop .inv .0) more (accepted _ _ _ _ z) (c .take-edit .ensures),
-      sym (check-on _ _ _ _ _ _ _ _ _ wide size more _ (c .before .before .before .before .edit-at .ensures) whole _ z (c .take-edit .ensures)) ∙ c .before .before .before .before .before .before .before .before .loop .inv .1,
+    let at-if2 = c .before in
+    let at-refusal-of = at-if2 .before in
+    let at-edit-at = at-refusal-of .before .before in
+    let at-if1 = at-edit-at .before in
+    let at-ends-within = at-if1 .before in
+    let at-loop-test = at-ends-within .before in
+    let at-loop = at-loop-test .before in
+    let at-size = at-loop .before .before in
+    let at-width = at-size .before in
+    let z = sym (at-refusal-of .refusal-of .ensures) ∙ at-if2 .if2 .left in
+    let wide = at-width .width .ensures in
+    let size = at-size .size .ensures in
+    let whole = sym (at-if1 .if1 .left) ∙ at-ends-within .ends-within .ensures in
+    let more = at-loop-test .loop-test .taken in (
+      within-on _ _ _ _ _ _ _ (at-loop .loop .inv .0) more (accepted _ _ _ _ z) (c .take-edit .ensures),
+      sym (check-on _ _ _ _ _ _ _ _ _ wide size more _ (at-edit-at .edit-at .ensures) whole _ z (c .take-edit .ensures)) ∙ at-loop .loop .inv .1,
     )
 
 finish-requires : tie.Need-finish-requires Inv-loop μ-loop

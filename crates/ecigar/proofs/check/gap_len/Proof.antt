@@ -29,7 +29,11 @@ add-result : tie.Need-add-result
 add-result c = search needs
 
 returns-2 : tie.Need-returns-2
-returns-2 c = (rw (gap-apart _ _ (sym (c .before .before .before .before .before .joins .ensures) ∙ c .before .before .before .before .if1 .left), length-append, ← c .before .before .before .closed-len .ensures .0, ← c .matches-len .ensures .0), omega arith)
+returns-2 c =
+    let at-closed-len = c .before .before .before in
+    let at-if1 = at-closed-len .before in
+    let at-joins = at-if1 .before in
+    (rw (gap-apart _ _ (sym (at-joins .joins .ensures) ∙ at-if1 .if1 .left), length-append, ← at-closed-len .closed-len .ensures .0, ← c .matches-len .ensures .0), omega arith)
 
 pub gap-len-spec : {M : Type 1} → statement M
 gap-len-spec =

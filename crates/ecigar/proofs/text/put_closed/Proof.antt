@@ -13,16 +13,29 @@ same-length : tie.Need-same-length
 same-length c = search needs
 
 returns : tie.Need-returns
-returns c = laid-as (sym (closed-insertion (c .before .before .before .before .before .before .before .args .w) (c .before .before .before .before .if1 .taken))) (c .before .before .put-count .ensures)
+returns c =
+    let at-put-count = c .before .before in
+    let at-if1 = at-put-count .before .before in
+    let at-start = at-if1 .before .before .before in
+    laid-as (sym (closed-insertion (at-start .args .w) (at-if1 .if1 .taken))) (at-put-count .put-count .ensures)
 
 put-count-requires-2 : tie.Need-put-count-requires-2
-put-count-requires-2 c κs = rw (← closed-deletion (c .before .before .before .before .before .before .args .w) (c .before .before .before .if1 .left) (c .before .if2 .taken)) (c .before .before .before .before .before .before .pre)
+put-count-requires-2 c κs =
+    let at-if2 = c .before in
+    let at-if1 = at-if2 .before .before in
+    let at-start = at-if1 .before .before .before in
+    rw (← closed-deletion (at-start .args .w) (at-if1 .if1 .left) (at-if2 .if2 .taken)) (at-start .pre)
 
 same-length-2 : tie.Need-same-length-2
 same-length-2 c = search needs
 
 returns-2 : tie.Need-returns-2
-returns-2 c = laid-as (sym (closed-deletion (c .before .before .before .before .before .before .before .before .before .args .w) (c .before .before .before .before .before .before .if1 .left) (c .before .before .before .before .if2 .taken))) (c .before .before .put-count2 .ensures)
+returns-2 c =
+    let at-put-count2 = c .before .before in
+    let at-if2 = at-put-count2 .before .before in
+    let at-if1 = at-if2 .before .before in
+    let at-start = at-if1 .before .before .before in
+    laid-as (sym (closed-deletion (at-start .args .w) (at-if1 .if1 .left) (at-if2 .if2 .taken))) (at-put-count2 .put-count2 .ensures)
 
 returns-3 : tie.Need-returns-3
 returns-3 c = laid-as (sym (closed-none (c .before .before .before .before .before .args .w) (c .before .before .if1 .left) (c .if2 .left))) (laid-none _ _)

@@ -10,7 +10,10 @@ put-decimal-requires : tie.Need-put-decimal-requires
 put-decimal-requires c κs = omega (arith, length-counted (c .before .before .args .n) (c .before .before .args .sign))
 
 put-byte-requires : tie.Need-put-byte-requires
-put-byte-requires c κs = omega (arith, length-counted (c .before .before .before .before .before .before .args .n) (c .before .before .before .before .before .before .args .sign), c .before .before .before .put-decimal .ensures .to, length-laid (c .before .before .before .put-decimal .ensures))
+put-byte-requires c κs =
+    let at-put-decimal = c .before .before .before in
+    let at-start = at-put-decimal .before .before .before in
+    omega (arith, length-counted (at-start .args .n) (at-start .args .sign), at-put-decimal .put-decimal .ensures .to, length-laid (at-put-decimal .put-decimal .ensures))
 
 same-length : tie.Need-same-length
 same-length c = search needs

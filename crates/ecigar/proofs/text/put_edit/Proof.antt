@@ -12,7 +12,10 @@ put-gap-requires : tie.Need-put-gap-requires
 put-gap-requires c κs = let p = rw (printed-append, length-append) at (c .before .before .pre .1) in omega arith
 
 put-mark-requires : tie.Need-put-mark-requires
-put-mark-requires c κs = let p = rw (printed-append, length-append) at (c .before .before .before .before .before .before .pre .1) in omega (arith, c .before .before .before .put-gap .ensures .to, length-laid (c .before .before .before .put-gap .ensures))
+put-mark-requires c κs =
+    let at-put-gap = c .before .before .before in
+    let at-start = at-put-gap .before .before .before in
+    let p = rw (printed-append, length-append) at (at-start .pre .1) in omega (arith, at-put-gap .put-gap .ensures .to, length-laid (at-put-gap .put-gap .ensures))
 
 same-length : tie.Need-same-length
 same-length c = search needs

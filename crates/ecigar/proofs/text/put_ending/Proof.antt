@@ -15,7 +15,10 @@ sub-put-matches : tie.Need-sub-put-matches
 sub-put-matches c = search needs
 
 put-matches-requires : tie.Need-put-matches-requires
-put-matches-requires c κs = let p = rw (ending-both, length-append) at (c .before .before .before .before .before .before .before .pre .1) in omega (arith, c .before .before .before .before .put-closed .ensures .to, length-laid (c .before .before .before .before .put-closed .ensures))
+put-matches-requires c κs =
+    let at-put-closed = c .before .before .before .before in
+    let at-start = at-put-closed .before .before .before in
+    let p = rw (ending-both, length-append) at (at-start .pre .1) in omega (arith, at-put-closed .put-closed .ensures .to, length-laid (at-put-closed .put-closed .ensures))
 
 same-length : tie.Need-same-length
 same-length c = search needs

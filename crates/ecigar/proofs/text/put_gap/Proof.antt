@@ -25,15 +25,24 @@ sub-put-matches c = search needs
 
 put-matches-requires : tie.Need-put-matches-requires
 put-matches-requires c κs =
-    let p = rw (gap-apart _ _ (sym (c .before .before .before .before .before .before .before .before .joins .ensures) ∙ c .before .before .before .before .before .before .before .if1 .left), length-append) at (c .before .before .before .before .before .before .before .before .before .before .pre .1) in
-    let q = c .before .before .before .before .before .put-closed .ensures in
+    let at-put-closed = c .before .before .before .before .before in
+    let at-if1 = at-put-closed .before .before in
+    let at-joins = at-if1 .before in
+    let at-start = at-joins .before .before in
+    let p = rw (gap-apart _ _ (sym (at-joins .joins .ensures) ∙ at-if1 .if1 .left), length-append) at (at-start .pre .1) in
+    let q = at-put-closed .put-closed .ensures in
     omega (arith, q .to, length-laid q)
 
 same-length : tie.Need-same-length
 same-length c = search needs
 
 returns-2 : tie.Need-returns-2
-returns-2 c = laid-as (sym (gap-apart _ _ (sym (c .before .before .before .before .before .before .before .before .before .before .before .joins .ensures) ∙ c .before .before .before .before .before .before .before .before .before .before .if1 .left))) (laid-then (c .before .before .before .before .before .before .before .before .put-closed .ensures) (c .before .before .put-matches .ensures))
+returns-2 c =
+    let at-put-matches = c .before .before in
+    let at-put-closed = at-put-matches .before .before .before .before .before .before in
+    let at-if1 = at-put-closed .before .before in
+    let at-joins = at-if1 .before in
+    laid-as (sym (gap-apart _ _ (sym (at-joins .joins .ensures) ∙ at-if1 .if1 .left))) (laid-then (at-put-closed .put-closed .ensures) (at-put-matches .put-matches .ensures))
 
 pub put-gap-spec : {M : Type 1} → statement M
 put-gap-spec =

@@ -14,13 +14,21 @@ letter-requires : tie.Need-letter-requires
 letter-requires c κs = search needs
 
 put-byte-requires : tie.Need-put-byte-requires
-put-byte-requires c κs = let p = rw (mark-letter (c .before .before .before .before .before .before .args .alphabet) (c .before .before .before .before .before .before .args .e) (c .before .before .before .if1 .taken)) at (c .before .before .before .before .before .before .pre) in omega arith
+put-byte-requires c κs =
+    let at-if1 = c .before .before .before in
+    let at-start = at-if1 .before .before .before in
+    let p = rw (mark-letter (at-start .args .alphabet) (at-start .args .e) (at-if1 .if1 .taken)) at (at-start .pre) in omega arith
 
 same-length : tie.Need-same-length
 same-length c = search needs
 
 returns : tie.Need-returns
-returns c = laid-as (sym (mark-letter (c .before .before .before .before .before .before .before .before .before .args .alphabet) (c .before .before .before .before .before .before .before .before .before .args .e) (c .before .before .before .before .before .before .if1 .taken))) (rw (← c .before .before .before .before .letter .ensures) (c .before .before .put-byte .ensures))
+returns c =
+    let at-put-byte = c .before .before in
+    let at-letter = at-put-byte .before .before in
+    let at-if1 = at-letter .before .before in
+    let at-start = at-if1 .before .before .before in
+    laid-as (sym (mark-letter (at-start .args .alphabet) (at-start .args .e) (at-if1 .if1 .taken))) (rw (← at-letter .letter .ensures) (at-put-byte .put-byte .ensures))
 
 returns-2 : tie.Need-returns-2
 returns-2 c = laid-as (sym (mark-none (c .before .before .before .args .alphabet) (c .before .before .before .args .e) (c .if1 .left))) (laid-none _ _)

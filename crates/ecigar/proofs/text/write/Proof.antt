@@ -24,9 +24,12 @@ put-clip-requires c κs =
 
 write-edits-requires : tie.Need-write-edits-requires
 write-edits-requires c κs =
-    let s = c .before .before .before .before .before .before .before .before .before .before .before in
-    let m = c .before .before .before .before .before .before .before .mapped-length .ensures in
-    let p = c .before .before .before .put-clip .ensures in
+    let at-put-clip = c .before .before .before in
+    let at-mapped-length = at-put-clip .before .before .before .before in
+    let at-before = at-mapped-length .before .before .before in
+    let s = at-before .before in
+    let m = at-mapped-length .mapped-length .ensures in
+    let p = at-put-clip .put-clip .ensures in
     let n = length-text (s .args .class) (s .args .alphabet) (unhex (s .args .line .now)) (s .args .block) in
     (s .pre .0, (rw m (s .pre .1 .0), rw m (omega (arith, s .pre .1 .1, n, p .to, length-laid p))))
 
@@ -38,9 +41,13 @@ cast-put-clip-4 c = search needs
 
 put-clip-requires-2 : tie.Need-put-clip-requires-2
 put-clip-requires-2 c κs =
-    let s = c .before .before .before .before .before .before .before .before .before .before .before .before .before .before .before .before .before in
-    let p = c .before .before .before .before .before .before .before .before .before .put-clip .ensures in
-    let e = rw (c .before .before .before .before .before .before .before .before .before .before .before .before .before .mapped-length .ensures) at (c .before .before .before .before .before .write-edits .ensures) in
+    let at-write-edits = c .before .before .before .before .before in
+    let at-put-clip = at-write-edits .before .before .before .before in
+    let at-mapped-length = at-put-clip .before .before .before .before in
+    let at-before = at-mapped-length .before .before .before in
+    let s = at-before .before in
+    let p = at-put-clip .put-clip .ensures in
+    let e = rw (at-mapped-length .mapped-length .ensures) at (at-write-edits .write-edits .ensures) in
     let n = length-text (s .args .class) (s .args .alphabet) (unhex (s .args .line .now)) (s .args .block) in
     omega (arith, s .pre .1 .1, n, p .to, length-laid p, e .to, length-laid e)
 
@@ -49,8 +56,12 @@ same-length c = search needs
 
 returns : tie.Need-returns
 returns c =
-    let m = c .before .before .before .before .before .before .before .before .before .before .before .before .before .before .before .before .mapped-length .ensures in
-    laid-as (sym (text-parts _ _ _ _)) (laid-then (laid-then (c .before .before .before .before .before .before .before .before .before .before .before .before .put-clip .ensures) (rw m at (c .before .before .before .before .before .before .before .before .write-edits .ensures))) (c .before .before .put-clip2 .ensures))
+    let at-put-clip2 = c .before .before in
+    let at-write-edits = at-put-clip2 .before .before .before .before .before .before in
+    let at-put-clip = at-write-edits .before .before .before .before in
+    let at-mapped-length = at-put-clip .before .before .before .before in
+    let m = at-mapped-length .mapped-length .ensures in
+    laid-as (sym (text-parts _ _ _ _)) (laid-then (laid-then (at-put-clip .put-clip .ensures) (rw m at (at-write-edits .write-edits .ensures))) (at-put-clip2 .put-clip2 .ensures))
 
 pub write-spec : {M : Type 1} → statement M
 write-spec =

@@ -34,22 +34,35 @@ edit-at-requires c κs = tt
 
 put-edit-requires : tie.Need-put-edit-requires Inv-loop μ-loop
 put-edit-requires c κs =
-    let g = c .before .before .before .loop .inv in
-    let wide = c .before .before .before .before .before .width .ensures in
-    let it = c .before .edit-at .ensures in
-    let more = c .before .before .loop-test .taken in (
+    let at-edit-at = c .before in
+    let at-loop-test = at-edit-at .before in
+    let at-loop = at-loop-test .before in
+    let at-width = at-loop .before .before in
+    let at-start = at-width .before .before .before in
+    let g = at-loop .loop .inv in
+    let wide = at-width .width .ensures in
+    let it = at-edit-at .edit-at .ensures in
+    let more = at-loop-test .loop-test .taken in (
       accepted-on _ _ _ _ _ _ _ _ wide it more _ (g .sound) .order,
-      room-on _ _ _ _ _ _ _ _ wide it more _ (g .rest) (c .before .before .before .before .before .before .before .before .pre .1 .1),
+      room-on _ _ _ _ _ _ _ _ wide it more _ (g .rest) (at-start .pre .1 .1),
     )
 
 advance-requires : tie.Need-advance-requires Inv-loop μ-loop
-advance-requires c κs = let g = c .before .before .before .before .before .before .loop .inv in omega (arith, g .run, c .before .before .before .before .before .loop-test .taken, c .before .before .before .before .before .before .before .before .before .before .before .pre .0)
+advance-requires c κs =
+    let at-loop-test = c .before .before .before .before .before in
+    let at-loop = at-loop-test .before in
+    let at-start = at-loop .before .before .before .before .before in
+    let g = at-loop .loop .inv in omega (arith, g .run, at-loop-test .loop-test .taken, at-start .pre .0)
 
 add-at : tie.Need-add-at Inv-loop μ-loop
 add-at c =
-    let s = c .before .before .before .before .before .before .before .before .before .before .before .before in
-    let g = c .before .before .before .before .before .before .before .loop in
-    let f = framed-on (unhex (s .args .line .now)) (s .args .class) (g .at) (g .left) (c .before .before .before .before .before .before .before .before .before .width .result) (g .inv .framed) (c .before .before .before .before .before .before .before .before .before .width .ensures) (c .before .before .before .before .before .before .loop-test .taken) in
+    let at-loop-test = c .before .before .before .before .before .before in
+    let at-loop = at-loop-test .before in
+    let at-width = at-loop .before .before in
+    let at-before = at-width .before .before in
+    let s = at-before .before in
+    let g = at-loop .loop in
+    let f = framed-on (unhex (s .args .line .now)) (s .args .class) (g .at) (g .left) (at-width .width .result) (g .inv .framed) (at-width .width .ensures) (at-loop-test .loop-test .taken) in
     omega (arith, f .0, length-unhex (s .args .line .now))
 
 sub-left : tie.Need-sub-left Inv-loop μ-loop
@@ -60,19 +73,25 @@ loop-less c = omega arith
 
 loop-again : tie.Need-loop-again Inv-loop μ-loop
 loop-again c =
-    let g = c .before .before .before .before .before .before .before .loop .inv in
-    let s = c .before .before .before .before .before .before .before .before .before .before .before .before in
-    let wide = c .before .before .before .before .before .before .before .before .before .width .ensures in
-    let it = c .before .before .before .before .before .edit-at .ensures in
-    let more = c .before .before .before .before .before .before .loop-test .taken in
+    let at-put-edit = c .before .before .before in
+    let at-edit-at = at-put-edit .before .before in
+    let at-loop-test = at-edit-at .before in
+    let at-loop = at-loop-test .before in
+    let at-width = at-loop .before .before in
+    let at-before = at-width .before .before in
+    let g = at-loop .loop .inv in
+    let s = at-before .before in
+    let wide = at-width .width .ensures in
+    let it = at-edit-at .edit-at .ensures in
+    let more = at-loop-test .loop-test .taken in
     let moved = c .advance .ensures in
     let a = accepted-on _ _ _ _ _ _ _ _ wide it more _ (g .sound) in
     record {
       next = omega (arith, a .inside, past-next _ _ moved);
       run = omega (arith, g .run, past-run _ _ moved);
-      framed = framed-on (unhex (s .args .line .now)) (s .args .class) (c .before .before .before .before .before .before .before .loop .at) (c .before .before .before .before .before .before .before .loop .left) (c .before .before .before .before .before .before .before .before .before .width .result) (g .framed) wide more .1;
+      framed = framed-on (unhex (s .args .line .now)) (s .args .class) (at-loop .loop .at) (at-loop .loop .left) (at-width .width .result) (g .framed) wide more .1;
       sound = rw (past-next _ _ moved) (sound-on _ _ _ _ _ _ _ _ wide it more _ (g .sound));
-      rest = rw moved (rest-put (g .rest) (ecigar-on _ _ _ _ _ _ _ _ wide it more _) (c .before .before .before .put-edit .ensures));
+      rest = rw moved (rest-put (g .rest) (ecigar-on _ _ _ _ _ _ _ _ wide it more _) (at-put-edit .put-edit .ensures));
     }
 
 put-ending-requires : tie.Need-put-ending-requires Inv-loop μ-loop

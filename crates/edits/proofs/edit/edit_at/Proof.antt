@@ -38,7 +38,14 @@ cast-t17 : tie.Need-cast-t17
 cast-t17 c = omega (arith, code-n-lt _ (c .index-of-n .ensures))
 
 returns : tie.Need-returns
-returns c = edit-n _ _ _ _ _ (c .before .before .before .before .wide .ensures .0 ∙ c .before .before .before .before .before .byte-at .ensures) (c .before .before .wide2 .ensures .0 ∙ c .before .before .before .byte-at2 .ensures) _ _ (c .before .if1 .taken) (c .index-of-n .ensures) ∙ sym (edit-inside _ _ _ _ (c .before .before .before .before .before .before .inside .ensures .0))
+returns c =
+    let at-if1 = c .before in
+    let at-wide2 = at-if1 .before in
+    let at-byte-at2 = at-wide2 .before in
+    let at-wide = at-byte-at2 .before in
+    let at-byte-at = at-wide .before in
+    let at-inside = at-byte-at .before in
+    edit-n _ _ _ _ _ (at-wide .wide .ensures .0 ∙ at-byte-at .byte-at .ensures) (at-wide2 .wide2 .ensures .0 ∙ at-byte-at2 .byte-at2 .ensures) _ _ (at-if1 .if1 .taken) (c .index-of-n .ensures) ∙ sym (edit-inside _ _ _ _ (at-inside .inside .ensures .0))
 
 add-byte-at-2 : tie.Need-add-byte-at-2
 add-byte-at-2 c = omega (arith, c .before .before .before .before .before .inside .ensures .1)
@@ -47,7 +54,15 @@ byte-at-requires-3 : tie.Need-byte-at-requires-3
 byte-at-requires-3 c κs = search needs
 
 returns-2 : tie.Need-returns-2
-returns-2 c = edit-m _ _ _ _ _ (c .before .before .before .before .before .wide .ensures .0 ∙ c .before .before .before .before .before .before .byte-at .ensures) (c .before .before .before .wide2 .ensures .0 ∙ c .before .before .before .before .byte-at2 .ensures) _ _ (c .before .before .if1 .left) (c .if2 .taken) (c .before .byte-at3 .ensures) ∙ sym (edit-inside _ _ _ _ (c .before .before .before .before .before .before .before .inside .ensures .0))
+returns-2 c =
+    let at-byte-at3 = c .before in
+    let at-if1 = at-byte-at3 .before in
+    let at-wide2 = at-if1 .before in
+    let at-byte-at2 = at-wide2 .before in
+    let at-wide = at-byte-at2 .before in
+    let at-byte-at = at-wide .before in
+    let at-inside = at-byte-at .before in
+    edit-m _ _ _ _ _ (at-wide .wide .ensures .0 ∙ at-byte-at .byte-at .ensures) (at-wide2 .wide2 .ensures .0 ∙ at-byte-at2 .byte-at2 .ensures) _ _ (at-if1 .if1 .left) (c .if2 .taken) (at-byte-at3 .byte-at3 .ensures) ∙ sym (edit-inside _ _ _ _ (at-inside .inside .ensures .0))
 
 add-byte-at-3 : tie.Need-add-byte-at-3
 add-byte-at-3 c = omega (arith, c .before .before .before .before .before .before .before .inside .ensures .1)
@@ -56,7 +71,16 @@ byte-at-requires-4 : tie.Need-byte-at-requires-4
 byte-at-requires-4 c κs = search needs
 
 returns-3 : tie.Need-returns-3
-returns-3 c = edit-i _ _ _ _ _ (c .before .before .before .before .before .before .wide .ensures .0 ∙ c .before .before .before .before .before .before .before .byte-at .ensures) (c .before .before .before .before .wide2 .ensures .0 ∙ c .before .before .before .before .before .byte-at2 .ensures) _ _ _ (c .before .before .before .if1 .left) (c .before .if2 .left) (c .before .before .byte-at3 .ensures) (c .byte-at4 .ensures) ∙ sym (edit-inside _ _ _ _ (c .before .before .before .before .before .before .before .before .inside .ensures .0))
+returns-3 c =
+    let at-if2 = c .before in
+    let at-byte-at3 = at-if2 .before in
+    let at-if1 = at-byte-at3 .before in
+    let at-wide2 = at-if1 .before in
+    let at-byte-at2 = at-wide2 .before in
+    let at-wide = at-byte-at2 .before in
+    let at-byte-at = at-wide .before in
+    let at-inside = at-byte-at .before in
+    edit-i _ _ _ _ _ (at-wide .wide .ensures .0 ∙ at-byte-at .byte-at .ensures) (at-wide2 .wide2 .ensures .0 ∙ at-byte-at2 .byte-at2 .ensures) _ _ _ (at-if1 .if1 .left) (at-if2 .if2 .left) (at-byte-at3 .byte-at3 .ensures) (c .byte-at4 .ensures) ∙ sym (edit-inside _ _ _ _ (at-inside .inside .ensures .0))
 
 pub edit-at-spec : {M : Type 1} → statement M
 edit-at-spec =

@@ -32,11 +32,21 @@ returns-4 c = simp (le-ltb _ _ (c .before .before .before .before .before .if1 .
 
 returns-5 : tie.Need-returns-5
 unfolding editRefusal
-returns-5 c = simp (le-ltb _ _ (c .before .before .before .before .before .before .if1 .left), ne-eqb _ _ (c .before .before .before .before .if2 .left), lt-leb _ _ (c .before .before .if3 .left), le-ltb _ _ (c .before .if4 .left), le-leb _ _ (c .if5 .taken))
+returns-5 c =
+    let at-if4 = c .before in
+    let at-if3 = at-if4 .before in
+    let at-if2 = at-if3 .before .before in
+    let at-if1 = at-if2 .before .before in
+    simp (le-ltb _ _ (at-if1 .if1 .left), ne-eqb _ _ (at-if2 .if2 .left), lt-leb _ _ (at-if3 .if3 .left), le-ltb _ _ (at-if4 .if4 .left), le-leb _ _ (c .if5 .taken))
 
 returns-6 : tie.Need-returns-6
 unfolding editRefusal
-returns-6 c = simp (le-ltb _ _ (c .before .before .before .before .before .before .if1 .left), ne-eqb _ _ (c .before .before .before .before .if2 .left), lt-leb _ _ (c .before .before .if3 .left), le-ltb _ _ (c .before .if4 .left), lt-leb _ _ (c .if5 .left))
+returns-6 c =
+    let at-if4 = c .before in
+    let at-if3 = at-if4 .before in
+    let at-if2 = at-if3 .before .before in
+    let at-if1 = at-if2 .before .before in
+    simp (le-ltb _ _ (at-if1 .if1 .left), ne-eqb _ _ (at-if2 .if2 .left), lt-leb _ _ (at-if3 .if3 .left), le-ltb _ _ (at-if4 .if4 .left), lt-leb _ _ (c .if5 .left))
 
 pub refusal-of-spec : {M : Type 1} → statement M
 refusal-of-spec =

@@ -31,7 +31,9 @@ add-result : tie.Need-add-result
 add-result c = omega (arith, nib-below _ (c .before .before .nibble .ensures), nib-below _ (c .nibble2 .ensures))
 
 returns : tie.Need-returns
-returns c = cc (unhex-at (now (c .before .before .before .before .before .before .args .line)) (c .before .before .before .before .before .before .args .i) (omega arith))
+returns c =
+    let at-start = c .before .before .before .before .before .before in
+    cc (unhex-at (now (at-start .args .line)) (at-start .args .i) (omega arith))
 
 returns-2 : tie.Need-returns-2
 returns-2 c = cc (unhex-past (now (c .before .before .args .line)) (c .before .before .args .i) (omega arith))

@@ -49,9 +49,17 @@ is-digit-requires c κs = search needs
 
 returns-4 : tie.Need-returns-4 Inv-loop μ-loop
 unfolding lineWithin
-returns-4 c = let line = now (c .before .before .before .before .before .before .before .before .before .before .args .line) in
-    let bad = digits-stop line (length line - 1) _ (c .before .before .before .loop-test .taken) (omega arith) (sym (c .before .is-digit .ensures) ∙ not-true _ (c .if4 .taken)) in
-    simp (ne-eqb _ _ (c .before .before .before .before .before .before .before .before .if1 .left), le-ltb _ _ (c .before .before .before .before .before .before .before .if2 .left), eq-eqb _ _ (c .before .before .before .before .before .if3 .left), c .before .before .before .before .loop .inv .1 ∙ bad)
+returns-4 c =
+    let at-is-digit = c .before in
+    let at-loop-test = at-is-digit .before .before in
+    let at-loop = at-loop-test .before in
+    let at-if3 = at-loop .before in
+    let at-if2 = at-if3 .before .before in
+    let at-if1 = at-if2 .before in
+    let at-start = at-if1 .before .before in
+    let line = now (at-start .args .line) in
+    let bad = digits-stop line (length line - 1) _ (at-loop-test .loop-test .taken) (omega arith) (sym (at-is-digit .is-digit .ensures) ∙ not-true _ (c .if4 .taken)) in
+    simp (ne-eqb _ _ (at-if1 .if1 .left), le-ltb _ _ (at-if2 .if2 .left), eq-eqb _ _ (at-if3 .if3 .left), at-loop .loop .inv .1 ∙ bad)
 
 add-i : tie.Need-add-i Inv-loop μ-loop
 add-i c = omega arith
@@ -64,7 +72,12 @@ loop-again c = (omega arith, c .before .before .before .before .loop .inv .1 ∙
 
 returns-5 : tie.Need-returns-5 Inv-loop μ-loop
 unfolding lineWithin
-returns-5 c = simp (ne-eqb _ _ (c .before .before .before .before .before .if1 .left), le-ltb _ _ (c .before .before .before .before .if2 .left), eq-eqb _ _ (c .before .before .if3 .left), c .before .loop .inv .1 ∙ digits-end _ _ _ (c .loop-test .left) (c .before .loop .inv .0))
+returns-5 c =
+    let at-loop = c .before in
+    let at-if3 = at-loop .before in
+    let at-if2 = at-if3 .before .before in
+    let at-if1 = at-if2 .before in
+    simp (ne-eqb _ _ (at-if1 .if1 .left), le-ltb _ _ (at-if2 .if2 .left), eq-eqb _ _ (at-if3 .if3 .left), at-loop .loop .inv .1 ∙ digits-end _ _ _ (c .loop-test .left) (at-loop .loop .inv .0))
 
 pub line-within-spec : {M : Type 1} → statement M
 line-within-spec =

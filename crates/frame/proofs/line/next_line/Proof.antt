@@ -35,13 +35,19 @@ add-t9 : tie.Need-add-t9 Inv-loop μ-loop
 add-t9 c = omega arith
 
 returns-2 : tie.Need-returns-2 Inv-loop μ-loop
-returns-2 c = let s = now (c .before .before .before .before .before .before .before .args .s) in
-    let h = window-below (c .before .before .before .before .before .window .ensures) in
+returns-2 c =
+    let at-loop-test = c .before .before in
+    let at-loop = at-loop-test .before in
+    let at-if1 = at-loop .before in
+    let at-window = at-if1 .before in
+    let at-start = at-window .before .before in
+    let s = now (at-start .args .s) in
+    let h = window-below (at-window .window .ensures) in
     simp (
-      next-at s _ (c .before .before .before .before .before .window .ensures),
-      ne-eqb _ _ (c .before .before .before .before .if1 .left),
-      c .before .before .before .loop .inv .1,
-      ended-here s _ _ (c .before .before .loop-test .taken) h (c .if2 .taken),
+      next-at s _ (at-window .window .ensures),
+      ne-eqb _ _ (at-if1 .if1 .left),
+      at-loop .loop .inv .1,
+      ended-here s _ _ (at-loop-test .loop-test .taken) h (c .if2 .taken),
     )
 
 add-i : tie.Need-add-i Inv-loop μ-loop
@@ -55,22 +61,34 @@ loop-again c = let h = window-below (c .before .before .before .before .before .
     (omega arith, λ o. c .before .before .before .loop .inv .1 o ∙ ended-on _ _ _ (c .before .before .loop-test .taken) h (c .if2 .left) o)
 
 returns-3 : tie.Need-returns-3 Inv-loop μ-loop
-returns-3 c = let s = now (c .before .before .before .before .before .before .args .s) in
+returns-3 c =
+    let at-loop-test = c .before in
+    let at-loop = at-loop-test .before in
+    let at-if1 = at-loop .before in
+    let at-window = at-if1 .before in
+    let at-start = at-window .before .before in
+    let s = now (at-start .args .s) in
     simp (
-      next-at s _ (c .before .before .before .before .window .ensures),
-      ne-eqb _ _ (c .before .before .before .if1 .left),
-      c .before .before .loop .inv .1,
-      ended-not s _ _ (c .before .loop-test .left) (c .before .before .loop .inv .0),
+      next-at s _ (at-window .window .ensures),
+      ne-eqb _ _ (at-if1 .if1 .left),
+      at-loop .loop .inv .1,
+      ended-not s _ _ (at-loop-test .loop-test .left) (at-loop .loop .inv .0),
       le-leb _ _ (c .if3 .taken),
     )
 
 returns-4 : tie.Need-returns-4 Inv-loop μ-loop
-returns-4 c = let s = now (c .before .before .before .before .before .before .args .s) in
+returns-4 c =
+    let at-loop-test = c .before in
+    let at-loop = at-loop-test .before in
+    let at-if1 = at-loop .before in
+    let at-window = at-if1 .before in
+    let at-start = at-window .before .before in
+    let s = now (at-start .args .s) in
     simp (
-      next-at s _ (c .before .before .before .before .window .ensures),
-      ne-eqb _ _ (c .before .before .before .if1 .left),
-      c .before .before .loop .inv .1,
-      ended-not s _ _ (c .before .loop-test .left) (c .before .before .loop .inv .0),
+      next-at s _ (at-window .window .ensures),
+      ne-eqb _ _ (at-if1 .if1 .left),
+      at-loop .loop .inv .1,
+      ended-not s _ _ (at-loop-test .loop-test .left) (at-loop .loop .inv .0),
       lt-leb _ _ (c .if3 .left),
     )
 

@@ -44,7 +44,11 @@ same-length : tie.Need-same-length
 same-length c = search needs
 
 returns-4 : tie.Need-returns-4
-returns-4 c = table-stored _ _ _ _ (sym (c .before .before .before .before .before .answer .given .1) ∙ c .before .before .before .before .before .before .before .read-count .ensures ∙ pair-shaped _ _ _ (omega arith) (omega arith)) (c .before .before .lay-symbols .ensures) (omega arith)
+returns-4 c =
+    let at-lay-symbols = c .before .before in
+    let at-answer = at-lay-symbols .before .before .before in
+    let at-read-count = at-answer .before .before in
+    table-stored _ _ _ _ (sym (at-answer .answer .given .1) ∙ at-read-count .read-count .ensures ∙ pair-shaped _ _ _ (omega arith) (omega arith)) (at-lay-symbols .lay-symbols .ensures) (omega arith)
 
 pub read-spec : {M : Type 1} → statement M
 read-spec =

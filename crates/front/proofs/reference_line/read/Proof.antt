@@ -25,7 +25,11 @@ same-length : tie.Need-same-length
 same-length c = search needs
 
 returns-2 : tie.Need-returns-2
-returns-2 c = reference-stored _ _ _ _ (c .before .before .before .before .enum-told .given .1) (c .before .before .before .before .before .before .read-count .ensures) (c .before .before .lay-bases .ensures)
+returns-2 c =
+    let at-lay-bases = c .before .before in
+    let at-enum-told = at-lay-bases .before .before in
+    let at-read-count = at-enum-told .before .before in
+    reference-stored _ _ _ _ (at-enum-told .enum-told .given .1) (at-read-count .read-count .ensures) (at-lay-bases .lay-bases .ensures)
 
 pub read-spec : {M : Type 1} → statement M
 read-spec =

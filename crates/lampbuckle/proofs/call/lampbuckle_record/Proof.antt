@@ -35,10 +35,22 @@ enum-known-answer-2 : tie.Need-enum-known-answer-2
 enum-known-answer-2 c = search needs
 
 lay-state-requires : tie.Need-lay-state-requires
-lay-state-requires c κs = let a = c .before .before .before .before .before .before .before .before .before .before .before .before .before .before .before .before .before .before .before .before .args in record-nine (now (a .unit)) _ _ _ (now (a .state)) _ (now (a .out)) (c .before .before .before .before .before .before .before .before .before .before .before .read-unit .ensures) (c .before .before .before .before .before .before .before .before .before .read-state .ensures) (c .before .before .before .before .before .before .before .«record» .ensures) (c .before .before .answer2 .given .1)
+lay-state-requires c κs =
+    let at-answer2 = c .before .before in
+    let at-record = at-answer2 .before .before .before .before .before in
+    let at-read-state = at-record .before .before in
+    let at-read-unit = at-read-state .before .before in
+    let at-start = at-read-unit .before .before .before .before .before .before .before .before .before in
+    let a = at-start .args in record-nine (now (a .unit)) _ _ _ (now (a .state)) _ (now (a .out)) (at-read-unit .read-unit .ensures) (at-read-state .read-state .ensures) (at-record .«record» .ensures) (at-answer2 .answer2 .given .1)
 
 counted-requires : tie.Need-counted-requires
-counted-requires c κs = let s = c .before .before .before .before .before .before .before .before .before .before .before .before .before .before .before .before .before .before .before .before .before .before .before in record-counted (now (s .args .unit)) _ _ _ (now (s .args .state)) _ (now (s .args .out)) (c .before .before .before .before .before .before .before .before .before .before .before .before .before .before .read-unit .ensures) (c .before .before .before .before .before .before .before .before .before .before .before .before .read-state .ensures) (c .before .before .before .before .before .before .before .before .before .before .«record» .ensures) (c .before .before .before .before .before .answer2 .given .1) (omega (arith, s .good .1 .1 .1 .1 .1 .1 .0))
+counted-requires c κs =
+    let at-answer2 = c .before .before .before .before .before in
+    let at-record = at-answer2 .before .before .before .before .before in
+    let at-read-state = at-record .before .before in
+    let at-read-unit = at-read-state .before .before in
+    let at-before = at-read-unit .before .before .before .before .before .before .before .before in
+    let s = at-before .before in record-counted (now (s .args .unit)) _ _ _ (now (s .args .state)) _ (now (s .args .out)) (at-read-unit .read-unit .ensures) (at-read-state .read-state .ensures) (at-record .«record» .ensures) (at-answer2 .answer2 .given .1) (omega (arith, s .good .1 .1 .1 .1 .1 .1 .0))
 
 same-length : tie.Need-same-length
 same-length c = search needs
@@ -47,7 +59,13 @@ same-length-2 : tie.Need-same-length-2
 same-length-2 c = search needs
 
 returns-2 : tie.Need-returns-2
-returns-2 c = record-refused _ _ _ _ _ _ _ (c .before .before .before .before .before .before .before .before .before .before .before .read-unit .ensures) (c .before .before .before .before .before .before .before .before .before .read-state .ensures) (c .before .before .before .before .before .before .before .«record» .ensures) (c .before .before .before .before .before .before .before .before .before .before .before .before .if1 .left) (c .before .before .answer .given .1) (told (c .refused2 .ok) (c .refused2 .ensures))
+returns-2 c =
+    let at-answer = c .before .before in
+    let at-record = at-answer .before .before .before .before .before in
+    let at-read-state = at-record .before .before in
+    let at-read-unit = at-read-state .before .before in
+    let at-if1 = at-read-unit .before in
+    record-refused _ _ _ _ _ _ _ (at-read-unit .read-unit .ensures) (at-read-state .read-state .ensures) (at-record .«record» .ensures) (at-if1 .if1 .left) (at-answer .answer .given .1) (told (c .refused2 .ok) (c .refused2 .ensures))
 
 same-length-3 : tie.Need-same-length-3
 same-length-3 c = search needs
@@ -56,7 +74,14 @@ same-length-4 : tie.Need-same-length-4
 same-length-4 c = search needs
 
 returns-3 : tie.Need-returns-3
-returns-3 c = record-listed _ _ _ _ _ _ _ (c .before .before .before .before .before .before .before .before .before .before .before .before .before .before .before .read-unit .ensures) (c .before .before .before .before .before .before .before .before .before .before .before .before .before .read-state .ensures) (c .before .before .before .before .before .before .before .before .before .before .before .«record» .ensures) (c .before .before .before .before .before .before .before .before .before .before .before .before .before .before .before .before .if1 .left) (c .before .before .before .before .before .before .answer2 .given .1) (c .before .before .before .lay-state .ensures) (told (c .counted .ok) (c .counted .ensures))
+returns-3 c =
+    let at-lay-state = c .before .before .before in
+    let at-answer2 = at-lay-state .before .before .before in
+    let at-record = at-answer2 .before .before .before .before .before in
+    let at-read-state = at-record .before .before in
+    let at-read-unit = at-read-state .before .before in
+    let at-if1 = at-read-unit .before in
+    record-listed _ _ _ _ _ _ _ (at-read-unit .read-unit .ensures) (at-read-state .read-state .ensures) (at-record .«record» .ensures) (at-if1 .if1 .left) (at-answer2 .answer2 .given .1) (at-lay-state .lay-state .ensures) (told (c .counted .ok) (c .counted .ensures))
 
 pub lampbuckle-record-spec : {M : Type 1} → statement M
 lampbuckle-record-spec =

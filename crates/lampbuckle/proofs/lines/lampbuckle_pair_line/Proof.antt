@@ -31,7 +31,12 @@ mul-counts : tie.Need-mul-counts
 mul-counts c = search needs
 
 slice-write-counts : tie.Need-slice-write-counts
-slice-write-counts c = pair-place _ _ _ (now (c .before .before .before .before .before .before .before .before .before .before .before .args .counts)) (c .before .before .before .before .before .before .before .if1 .left) (c .before .before .before .before .before .read .ensures) (c .before .n2 .given .1)
+slice-write-counts c =
+    let at-n2 = c .before in
+    let at-read = at-n2 .before .before .before .before in
+    let at-if1 = at-read .before .before in
+    let at-start = at-if1 .before .before .before .before in
+    pair-place _ _ _ (now (at-start .args .counts)) (at-if1 .if1 .left) (at-read .read .ensures) (at-n2 .n2 .given .1)
 
 cast-counted : tie.Need-cast-counted
 cast-counted c = search needs
@@ -43,7 +48,11 @@ same-length : tie.Need-same-length
 same-length c = search needs
 
 returns-2 : tie.Need-returns-2
-returns-2 c = pair-refused _ _ _ _ (c .before .before .before .before .before .before .before .before .if1 .left) (c .before .before .before .before .before .before .read .ensures) (c .before .before .n .given .1) (told (c .refused2 .ok) (c .refused2 .ensures))
+returns-2 c =
+    let at-n = c .before .before in
+    let at-read = at-n .before .before .before .before in
+    let at-if1 = at-read .before .before in
+    pair-refused _ _ _ _ (at-if1 .if1 .left) (at-read .read .ensures) (at-n .n .given .1) (told (c .refused2 .ok) (c .refused2 .ensures))
 
 same-length-2 : tie.Need-same-length-2
 same-length-2 c = search needs
@@ -52,7 +61,11 @@ same-length-3 : tie.Need-same-length-3
 same-length-3 c = search needs
 
 returns-3 : tie.Need-returns-3
-returns-3 c = pair-read _ _ _ _ (c .before .before .before .before .before .before .before .before .if1 .left) (c .before .before .before .before .before .before .read .ensures) (c .before .before .n2 .given .1) (told (c .counted .ok) (c .counted .ensures))
+returns-3 c =
+    let at-n2 = c .before .before in
+    let at-read = at-n2 .before .before .before .before in
+    let at-if1 = at-read .before .before in
+    pair-read _ _ _ _ (at-if1 .if1 .left) (at-read .read .ensures) (at-n2 .n2 .given .1) (told (c .counted .ok) (c .counted .ensures))
 
 pub lampbuckle-pair-line-spec : {M : Type 1} → statement M
 lampbuckle-pair-line-spec =

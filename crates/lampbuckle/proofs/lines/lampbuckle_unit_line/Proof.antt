@@ -39,7 +39,12 @@ same-length : tie.Need-same-length
 same-length c = search needs
 
 returns-3 : tie.Need-returns-3
-returns-3 c = unit-read _ _ (c .before .before .before .before .before .before .before .before .before .if1 .left) (c .before .before .before .before .before .before .before .before .read .ensures) (c .before .before .before .before .before .before .u .given .1) (c .before .before .before .lay-unit .ensures) (told (c .counted .ok) (c .counted .ensures))
+returns-3 c =
+    let at-lay-unit = c .before .before .before in
+    let at-u = at-lay-unit .before .before .before in
+    let at-read = at-u .before .before in
+    let at-if1 = at-read .before in
+    unit-read _ _ (at-if1 .if1 .left) (at-read .read .ensures) (at-u .u .given .1) (at-lay-unit .lay-unit .ensures) (told (c .counted .ok) (c .counted .ensures))
 
 pub lampbuckle-unit-line-spec : {M : Type 1} → statement M
 lampbuckle-unit-line-spec =

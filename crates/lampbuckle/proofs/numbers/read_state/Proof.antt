@@ -39,7 +39,10 @@ shared-slice-read-t21 : tie.Need-shared-slice-read-t21
 shared-slice-read-t21 c = search needs
 
 returns-2 : tie.Need-returns-2
-returns-2 c = state-read (now (c .before .before .before .before .before .before .before .before .before .before .before .args .n)) (c .before .before .before .before .before .before .before .before .before .if1 .left)
+returns-2 c =
+    let at-if1 = c .before .before .before .before .before .before .before .before .before in
+    let at-start = at-if1 .before .before in
+    state-read (now (at-start .args .n)) (at-if1 .if1 .left)
 
 pub read-state-spec : {M : Type 1} → statement M
 read-state-spec =

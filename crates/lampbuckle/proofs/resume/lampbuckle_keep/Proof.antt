@@ -33,7 +33,13 @@ same-length : tie.Need-same-length
 same-length c = search needs
 
 returns-2 : tie.Need-returns-2
-returns-2 c = keep-gone _ _ (c .before .before .before .before .before .before .before .before .before .if1 .left) (c .before .before .before .before .before .before .before .read-keep .ensures) (c .before .before .before .before .before .before .over .ensures) (c .before .before .before .before .lay-keep .ensures) (c .before .flag .ensures) (told (c .counted .ok) (c .counted .ensures))
+returns-2 c =
+    let at-flag = c .before in
+    let at-lay-keep = at-flag .before .before .before in
+    let at-over = at-lay-keep .before .before in
+    let at-read-keep = at-over .before in
+    let at-if1 = at-read-keep .before .before in
+    keep-gone _ _ (at-if1 .if1 .left) (at-read-keep .read-keep .ensures) (at-over .over .ensures) (at-lay-keep .lay-keep .ensures) (at-flag .flag .ensures) (told (c .counted .ok) (c .counted .ensures))
 
 pub lampbuckle-keep-spec : {M : Type 1} → statement M
 lampbuckle-keep-spec =

@@ -34,7 +34,11 @@ same-length : tie.Need-same-length
 same-length c = search needs
 
 returns-2 : tie.Need-returns-2
-returns-2 c = pass-gone _ _ (c .before .pass .ensures) (c .before .before .before .if1 .left) (sets-whole (c .before .pass .result .left ∷ []) (now (c .before .before .before .before .before .before .args .wanted)) (c .before .before .before .if1 .left)) (told (c .counted .ok) (c .counted .ensures))
+returns-2 c =
+    let at-pass = c .before in
+    let at-if1 = at-pass .before .before in
+    let at-start = at-if1 .before .before .before in
+    pass-gone _ _ (at-pass .pass .ensures) (at-if1 .if1 .left) (sets-whole (at-pass .pass .result .left ∷ []) (now (at-start .args .wanted)) (at-if1 .if1 .left)) (told (c .counted .ok) (c .counted .ensures))
 
 pub lampbuckle-pass-spec : {M : Type 1} → statement M
 lampbuckle-pass-spec =

@@ -34,7 +34,13 @@ same-length : tie.Need-same-length
 same-length c = search needs
 
 returns-3 : tie.Need-returns-3
-returns-3 c = place-found _ _ _ _ _ _ (c .before .before .before .before .before .before .before .if1 .left) (c .before .before .before .before .before .before .if2 .left) (c .before .before .before .before .before .read-counts .ensures) (c .before .before .before .before .place .ensures) (told-outcome (c .before .before .settle .ok) (c .before .before .settle .ensures))
+returns-3 c =
+    let at-settle = c .before .before in
+    let at-place = at-settle .before .before in
+    let at-read-counts = at-place .before in
+    let at-if2 = at-read-counts .before in
+    let at-if1 = at-if2 .before in
+    place-found _ _ _ _ _ _ (at-if1 .if1 .left) (at-if2 .if2 .left) (at-read-counts .read-counts .ensures) (at-place .place .ensures) (told-outcome (at-settle .settle .ok) (at-settle .settle .ensures))
 
 pub lampbuckle-place-spec : {M : Type 1} → statement M
 lampbuckle-place-spec =

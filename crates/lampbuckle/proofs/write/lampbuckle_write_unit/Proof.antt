@@ -38,7 +38,13 @@ same-length : tie.Need-same-length
 same-length c = search needs
 
 returns-3 : tie.Need-returns-3
-returns-3 c = unit-written _ _ (c .before .before .before .before .before .before .before .before .if1 .left) (c .before .before .before .before .before .before .before .read-unit .ensures) (c .before .before .before .before .before .before .refusal .ensures) (c .before .before .before .before .before .if2 .left) (c .before .before .before .write .ensures) (told (c .answered .ok) (c .answered .ensures))
+returns-3 c =
+    let at-write = c .before .before .before in
+    let at-if2 = at-write .before .before in
+    let at-refusal = at-if2 .before in
+    let at-read-unit = at-refusal .before in
+    let at-if1 = at-read-unit .before in
+    unit-written _ _ (at-if1 .if1 .left) (at-read-unit .read-unit .ensures) (at-refusal .refusal .ensures) (at-if2 .if2 .left) (at-write .write .ensures) (told (c .answered .ok) (c .answered .ensures))
 
 pub lampbuckle-write-unit-spec : {M : Type 1} → statement M
 lampbuckle-write-unit-spec =

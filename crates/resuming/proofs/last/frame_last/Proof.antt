@@ -18,54 +18,96 @@ listed-last-requires : tie.Need-listed-last-requires
 listed-last-requires c κs = c .before .before .before .before .pre
 
 returns : tie.Need-returns
-returns c = let a = c .before .before .before .before .before .args in
-    let kind = c .before .before .wide .ensures ∙ c .before .before .before .byte-at .ensures in
-    c .listed-last .ensures ∙ ap saidOf (frame-is-listed (a .count) (a .counts) (unhex (now (a .line))) _ (c .before .before .before .before .before .pre) _ kind (c .before .if1 .taken))
+returns c =
+    let at-if1 = c .before in
+    let at-wide = at-if1 .before in
+    let at-byte-at = at-wide .before in
+    let at-start = at-byte-at .before .before in
+    let a = at-start .args in
+    let kind = at-wide .wide .ensures ∙ at-byte-at .byte-at .ensures in
+    c .listed-last .ensures ∙ ap saidOf (frame-is-listed (a .count) (a .counts) (unhex (now (a .line))) _ (at-start .pre) _ kind (at-if1 .if1 .taken))
 
 bare-requires : tie.Need-bare-requires
 bare-requires c κs = search needs
 
 returns-2 : tie.Need-returns-2
 unfolding saidOf
-returns-2 c = let a = c .before .before .before .before .before .before .before .args in
-    let kind = c .before .before .before .before .wide .ensures ∙ c .before .before .before .before .before .byte-at .ensures in
-    c .bare .ensures ∙ ap saidOf (frame-05 (a .count) (a .counts) (unhex (now (a .line))) _ (c .before .before .before .before .before .before .before .pre) _ kind (c .before .before .before .if1 .left) (c .before .before .if2 .taken) (c .before .if3 .taken))
+returns-2 c =
+    let at-if3 = c .before in
+    let at-if2 = at-if3 .before in
+    let at-if1 = at-if2 .before in
+    let at-wide = at-if1 .before in
+    let at-byte-at = at-wide .before in
+    let at-start = at-byte-at .before .before in
+    let a = at-start .args in
+    let kind = at-wide .wide .ensures ∙ at-byte-at .byte-at .ensures in
+    c .bare .ensures ∙ ap saidOf (frame-05 (a .count) (a .counts) (unhex (now (a .line))) _ (at-start .pre) _ kind (at-if1 .if1 .left) (at-if2 .if2 .taken) (at-if3 .if3 .taken))
 
 bare-requires-2 : tie.Need-bare-requires-2
 bare-requires-2 c κs = search needs
 
 returns-3 : tie.Need-returns-3
 unfolding saidOf
-returns-3 c = let a = c .before .before .before .before .before .before .before .args in
-    let kind = c .before .before .before .before .wide .ensures ∙ c .before .before .before .before .before .byte-at .ensures in
-    c .bare2 .ensures ∙ ap saidOf (frame-not-05 (a .count) (a .counts) (unhex (now (a .line))) _ (c .before .before .before .before .before .before .before .pre) _ kind (c .before .before .before .if1 .left) (c .before .before .if2 .taken) (c .before .if3 .left))
+returns-3 c =
+    let at-if3 = c .before in
+    let at-if2 = at-if3 .before in
+    let at-if1 = at-if2 .before in
+    let at-wide = at-if1 .before in
+    let at-byte-at = at-wide .before in
+    let at-start = at-byte-at .before .before in
+    let a = at-start .args in
+    let kind = at-wide .wide .ensures ∙ at-byte-at .byte-at .ensures in
+    c .bare2 .ensures ∙ ap saidOf (frame-not-05 (a .count) (a .counts) (unhex (now (a .line))) _ (at-start .pre) _ kind (at-if1 .if1 .left) (at-if2 .if2 .taken) (at-if3 .if3 .left))
 
 bare-requires-3 : tie.Need-bare-requires-3
 bare-requires-3 c κs = search needs
 
 returns-4 : tie.Need-returns-4
 unfolding saidOf
-returns-4 c = let a = c .before .before .before .before .before .before .before .before .args in
-    let kind = c .before .before .before .before .before .wide .ensures ∙ c .before .before .before .before .before .before .byte-at .ensures in
-    c .bare3 .ensures ∙ ap saidOf (frame-06 (a .count) (a .counts) (unhex (now (a .line))) _ (c .before .before .before .before .before .before .before .before .pre) _ kind (c .before .before .before .before .if1 .left) (c .before .before .before .if2 .left) (c .before .before .if4 .taken) (c .before .if5 .taken))
+returns-4 c =
+    let at-if5 = c .before in
+    let at-if4 = at-if5 .before in
+    let at-if2 = at-if4 .before in
+    let at-if1 = at-if2 .before in
+    let at-wide = at-if1 .before in
+    let at-byte-at = at-wide .before in
+    let at-start = at-byte-at .before .before in
+    let a = at-start .args in
+    let kind = at-wide .wide .ensures ∙ at-byte-at .byte-at .ensures in
+    c .bare3 .ensures ∙ ap saidOf (frame-06 (a .count) (a .counts) (unhex (now (a .line))) _ (at-start .pre) _ kind (at-if1 .if1 .left) (at-if2 .if2 .left) (at-if4 .if4 .taken) (at-if5 .if5 .taken))
 
 bare-requires-4 : tie.Need-bare-requires-4
 bare-requires-4 c κs = search needs
 
 returns-5 : tie.Need-returns-5
 unfolding saidOf
-returns-5 c = let a = c .before .before .before .before .before .before .before .before .args in
-    let kind = c .before .before .before .before .before .wide .ensures ∙ c .before .before .before .before .before .before .byte-at .ensures in
-    c .bare4 .ensures ∙ ap saidOf (frame-not-06 (a .count) (a .counts) (unhex (now (a .line))) _ (c .before .before .before .before .before .before .before .before .pre) _ kind (c .before .before .before .before .if1 .left) (c .before .before .before .if2 .left) (c .before .before .if4 .taken) (c .before .if5 .left))
+returns-5 c =
+    let at-if5 = c .before in
+    let at-if4 = at-if5 .before in
+    let at-if2 = at-if4 .before in
+    let at-if1 = at-if2 .before in
+    let at-wide = at-if1 .before in
+    let at-byte-at = at-wide .before in
+    let at-start = at-byte-at .before .before in
+    let a = at-start .args in
+    let kind = at-wide .wide .ensures ∙ at-byte-at .byte-at .ensures in
+    c .bare4 .ensures ∙ ap saidOf (frame-not-06 (a .count) (a .counts) (unhex (now (a .line))) _ (at-start .pre) _ kind (at-if1 .if1 .left) (at-if2 .if2 .left) (at-if4 .if4 .taken) (at-if5 .if5 .left))
 
 bare-requires-5 : tie.Need-bare-requires-5
 bare-requires-5 c κs = search needs
 
 returns-6 : tie.Need-returns-6
 unfolding saidOf
-returns-6 c = let a = c .before .before .before .before .before .before .before .args in
-    let kind = c .before .before .before .before .wide .ensures ∙ c .before .before .before .before .before .byte-at .ensures in
-    c .bare5 .ensures ∙ ap saidOf (frame-other (a .count) (a .counts) (unhex (now (a .line))) _ (c .before .before .before .before .before .before .before .pre) _ kind (c .before .before .before .if1 .left) (c .before .before .if2 .left) (c .before .if4 .left))
+returns-6 c =
+    let at-if4 = c .before in
+    let at-if2 = at-if4 .before in
+    let at-if1 = at-if2 .before in
+    let at-wide = at-if1 .before in
+    let at-byte-at = at-wide .before in
+    let at-start = at-byte-at .before .before in
+    let a = at-start .args in
+    let kind = at-wide .wide .ensures ∙ at-byte-at .byte-at .ensures in
+    c .bare5 .ensures ∙ ap saidOf (frame-other (a .count) (a .counts) (unhex (now (a .line))) _ (at-start .pre) _ kind (at-if1 .if1 .left) (at-if2 .if2 .left) (at-if4 .if4 .left))
 
 pub frame-last-spec : {M : Type 1} → statement M
 frame-last-spec =

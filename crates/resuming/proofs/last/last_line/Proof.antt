@@ -30,8 +30,12 @@ frame-last-requires : tie.Need-frame-last-requires
 frame-last-requires c κs = frame-is-line mostListed _ _ (sym (c .before .before .before .line-within .ensures) ∙ c .before .bytes .given .1) .count
 
 returns-2 : tie.Need-returns-2
-returns-2 c = let a = c .before .before .before .before .before .before .args in
-    c .frame-last .ensures ∙ ap saidOf (last-frame (a .count) (a .counts) (now (a .line)) _ (sym (c .before .before .before .before .line-within .ensures) ∙ c .before .before .bytes .given .1))
+returns-2 c =
+    let at-bytes = c .before .before in
+    let at-line-within = at-bytes .before .before in
+    let at-start = at-line-within .before .before in
+    let a = at-start .args in
+    c .frame-last .ensures ∙ ap saidOf (last-frame (a .count) (a .counts) (now (a .line)) _ (sym (at-line-within .line-within .ensures) ∙ at-bytes .bytes .given .1))
 
 pub last-line-spec : {M : Type 1} → statement M
 last-line-spec =

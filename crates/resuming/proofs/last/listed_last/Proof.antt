@@ -44,18 +44,33 @@ bare-requires-3 c κs = search needs
 
 returns-3 : tie.Need-returns-3
 unfolding saidOf
-returns-3 c = let start = c .before .before .before .before .before .before .before .before .before in
+returns-3 c =
+    let at-if3 = c .before in
+    let at-within = at-if3 .before in
+    let at-state-at = at-within .before .before in
+    let at-if2 = at-state-at .before in
+    let at-word-at = at-if2 .before in
+    let at-if1 = at-word-at .before in
+    let at-before = at-if1 .before in
+    let start = at-before .before in
     c .bare3 .ensures
     ∙ ap saidOf
-    (listed-above (start .args .count) (start .args .t4) (unhex (now (start .args .line))) _ (start .pre) (omega (arith, c .before .before .before .before .before .before .before .if1 .left)) _ (c .before .before .before .before .before .before .word-at .ensures) (omega (arith, c .before .before .before .before .before .if2 .left)) _ (c .before .before .before .before .state-at .ensures)
-    (sym (c .before .before .within .ensures) ∙ not-true _ (c .before .if3 .taken)))
+    (listed-above (start .args .count) (start .args .t4) (unhex (now (start .args .line))) _ (start .pre) (omega (arith, at-if1 .if1 .left)) _ (at-word-at .word-at .ensures) (omega (arith, at-if2 .if2 .left)) _ (at-state-at .state-at .ensures)
+    (sym (at-within .within .ensures) ∙ not-true _ (at-if3 .if3 .taken)))
 
 returns-4 : tie.Need-returns-4
 unfolding saidOf
-returns-4 c = let start = c .before .before .before .before .before .before .before .before in
+returns-4 c =
+    let at-within = c .before in
+    let at-state-at = at-within .before .before in
+    let at-if2 = at-state-at .before in
+    let at-word-at = at-if2 .before in
+    let at-if1 = at-word-at .before in
+    let at-before = at-if1 .before in
+    let start = at-before .before in
     ap saidOf
-    (listed-fits (start .args .count) (start .args .t4) (unhex (now (start .args .line))) _ (start .pre) (omega (arith, c .before .before .before .before .before .before .if1 .left)) _ (c .before .before .before .before .before .word-at .ensures) (omega (arith, c .before .before .before .before .if2 .left)) _ (c .before .before .before .state-at .ensures)
-    (sym (c .before .within .ensures) ∙ not-false _ (c .if3 .left)))
+    (listed-fits (start .args .count) (start .args .t4) (unhex (now (start .args .line))) _ (start .pre) (omega (arith, at-if1 .if1 .left)) _ (at-word-at .word-at .ensures) (omega (arith, at-if2 .if2 .left)) _ (at-state-at .state-at .ensures)
+    (sym (at-within .within .ensures) ∙ not-false _ (c .if3 .left)))
 
 pub listed-last-spec : {M : Type 1} → statement M
 listed-last-spec =

@@ -33,14 +33,26 @@ bare-requires-3 c κs = search needs
 
 returns-3 : tie.Need-returns-3
 unfolding edgesFrom placedOf
-returns-3 c = simp (ne-eqb _ _ (c .before .before .before .before .before .if1 .left), sym (c .before .before .before .before .same .ensures) ∙ not-false _ (c .before .before .before .if2 .left), sym (c .before .before .same2 .ensures) ∙ c .before .if3 .taken) (c .bare3 .ensures)
+returns-3 c =
+    let at-if3 = c .before in
+    let at-same2 = at-if3 .before in
+    let at-if2 = at-same2 .before in
+    let at-same = at-if2 .before in
+    let at-if1 = at-same .before in
+    simp (ne-eqb _ _ (at-if1 .if1 .left), sym (at-same .same .ensures) ∙ not-false _ (at-if2 .if2 .left), sym (at-same2 .same2 .ensures) ∙ at-if3 .if3 .taken) (c .bare3 .ensures)
 
 behind-requires : tie.Need-behind-requires
 behind-requires c κs = search needs
 
 returns-4 : tie.Need-returns-4
 unfolding edgesFrom placedOf
-returns-4 c = simp (ne-eqb _ _ (c .before .before .before .before .before .if1 .left), sym (c .before .before .before .before .same .ensures) ∙ not-false _ (c .before .before .before .if2 .left), sym (c .before .before .same2 .ensures) ∙ c .before .if3 .left) (c .behind .ensures)
+returns-4 c =
+    let at-if3 = c .before in
+    let at-same2 = at-if3 .before in
+    let at-if2 = at-same2 .before in
+    let at-same = at-if2 .before in
+    let at-if1 = at-same .before in
+    simp (ne-eqb _ _ (at-if1 .if1 .left), sym (at-same .same .ensures) ∙ not-false _ (at-if2 .if2 .left), sym (at-same2 .same2 .ensures) ∙ at-if3 .if3 .left) (c .behind .ensures)
 
 pub place-spec : {M : Type 1} → statement M
 place-spec =

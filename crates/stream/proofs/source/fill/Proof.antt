@@ -27,7 +27,11 @@ filling c = filling-read (c .before .before .before .before .before .loop .inv) 
 turned : (c : tie.After-known-told Inv-loop μ-loop)
     → LineTurn (c .before .before .before .before .before .before .before .before .before .before .before .args .buf .now) (c .before .before .before .before .before .before .before .before .before .before .before .args .s .end) (c .before .before .before .before .before .before .before .before .loop .buf) (c .before .before .before .before .before .before .before .before .loop .end)
     (c .before .before .before .before .before .read-some .last .1 .0) (c .before .got .given .0 .0)
-turned c = filling-turn (c .before .before .before .before .before .before .before .before .loop .inv) (c .before .before .before .before .before .read-some .last .1 .0) (c .before .before .before .before .before .read-some .kept .1 .0) (rw (c .before .got .given .1) at (c .before .before .before .before .before .read-some .ensures))
+turned c =
+    let at-got = c .before in
+    let at-read-some = at-got .before .before .before .before in
+    let at-loop = at-read-some .before .before .before in
+    filling-turn (at-loop .loop .inv) (at-read-some .read-some .last .1 .0) (at-read-some .read-some .kept .1 .0) (rw (at-got .got .given .1) at (at-read-some .read-some .ensures))
 
 loop-holds : tie.Need-loop-holds Inv-loop μ-loop
 loop-holds c = filling-none _ _ (c .before .before .pre .inside)
@@ -63,7 +67,10 @@ same-length : tie.Need-same-length Inv-loop μ-loop
 same-length c = filling (c .before .before) .long
 
 returns : tie.Need-returns Inv-loop μ-loop
-returns c = filled (c .before .before .before .before .before .before .before .before .before .before .pre) (filling (c .before .before)) refl (λ e. false-true (sym e))
+returns c =
+    let at-before = c .before in
+    let at-start = at-before .before .before .before .before .before .before .before .before .before in
+    filled (at-start .pre) (filling (at-before .before)) refl (λ e. false-true (sym e))
 
 enum-told-2 : tie.Need-enum-told-2 Inv-loop μ-loop
 enum-told-2 c = search needs
@@ -72,7 +79,10 @@ same-length-2 : tie.Need-same-length-2 Inv-loop μ-loop
 same-length-2 c = filling (c .before .before) .long
 
 returns-2 : tie.Need-returns-2 Inv-loop μ-loop
-returns-2 c = filled (c .before .before .before .before .before .before .before .before .before .before .pre) (filling (c .before .before)) refl (λ e. false-true (sym e))
+returns-2 c =
+    let at-before = c .before in
+    let at-start = at-before .before .before .before .before .before .before .before .before .before in
+    filled (at-start .pre) (filling (at-before .before)) refl (λ e. false-true (sym e))
 
 same-length-3 : tie.Need-same-length-3 Inv-loop μ-loop
 same-length-3 c = c .before .loop .inv .long

@@ -21,7 +21,10 @@ pass-requires : tie.Need-pass-requires
 pass-requires c κs = search needs
 
 add-t12 : tie.Need-add-t12
-add-t12 c = let h = pass-fits _ _ _ _ (c .before .before .before .before .before .before .ready .ensures .held .order) (c .before .before .before .before .before .before .ready .ensures .held .inside) (c .before .pass .ensures) in omega (arith, c .before .before .before .before .before .before .ready .ensures .held .inside)
+add-t12 c =
+    let at-pass = c .before in
+    let at-ready = at-pass .before .before .before .before .before in
+    let h = pass-fits _ _ _ _ (at-ready .ready .ensures .held .order) (at-ready .ready .ensures .held .inside) (at-pass .pass .ensures) in omega (arith, at-ready .ready .ensures .held .inside)
 
 same-length : tie.Need-same-length
 same-length c = search needs

@@ -18,7 +18,11 @@ same-length : tie.Need-same-length
 same-length c = search needs
 
 returns : tie.Need-returns
-returns c = refilled _ (c .before .before .before .before .before .before .before .before .before .before .before .pre) refl refl refl (c .before .before .before .before .before .before .before .shift .ensures) (c .before .before .fill .ensures)
+returns c =
+    let at-fill = c .before .before in
+    let at-shift = at-fill .before .before .before .before .before in
+    let at-start = at-shift .before .before .before .before in
+    refilled _ (at-start .pre) refl refl refl (at-shift .shift .ensures) (at-fill .fill .ensures)
 
 pub refill-spec : {M : Type 1} → statement M
 refill-spec = tie.close (tie.spec sub-n shift-requires fill-requires same-length returns)

@@ -25,7 +25,9 @@ line-bytes-requires : tie.Need-line-bytes-requires
 line-bytes-requires c κs = search needs
 
 add-to : tie.Need-add-to
-add-to c = let h = line-fits _ _ _ _ (c .before .before .before .before .before .ready .ensures .held .order) (c .before .before .before .before .before .ready .ensures .held .inside) (c .line-bytes .ensures) in omega (arith, c .before .before .before .before .before .ready .ensures .held .inside)
+add-to c =
+    let at-ready = c .before .before .before .before .before in
+    let h = line-fits _ _ _ _ (at-ready .ready .ensures .held .order) (at-ready .ready .ensures .held .inside) (c .line-bytes .ensures) in omega (arith, at-ready .ready .ensures .held .inside)
 
 same-length : tie.Need-same-length
 same-length c = search needs

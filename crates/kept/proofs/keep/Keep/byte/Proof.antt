@@ -28,14 +28,24 @@ line-kept-requires c κs = search needs
 
 returns-4 : tie.Need-returns-4
 unfolding keepByte
-returns-4 c = simp (c .before .before .before .before .before .if1 .left, ne-eqb _ _ (c .before .before .before .before .if2 .left), lt-leb _ _ (c .before .before .if3 .left), eq-eqb _ _ (c .before .if4 .taken)) (c .line-kept .ensures)
+returns-4 c =
+    let at-if4 = c .before in
+    let at-if3 = at-if4 .before in
+    let at-if2 = at-if3 .before .before in
+    let at-if1 = at-if2 .before in
+    simp (at-if1 .if1 .left, ne-eqb _ _ (at-if2 .if2 .left), lt-leb _ _ (at-if3 .if3 .left), eq-eqb _ _ (at-if4 .if4 .taken)) (c .line-kept .ensures)
 
 passed-by-requires : tie.Need-passed-by-requires
 passed-by-requires c κs = search needs
 
 returns-5 : tie.Need-returns-5
 unfolding keepByte
-returns-5 c = simp (c .before .before .before .before .before .if1 .left, ne-eqb _ _ (c .before .before .before .before .if2 .left), lt-leb _ _ (c .before .before .if3 .left), ne-eqb _ _ (c .before .if4 .left)) (c .passed-by .ensures)
+returns-5 c =
+    let at-if4 = c .before in
+    let at-if3 = at-if4 .before in
+    let at-if2 = at-if3 .before .before in
+    let at-if1 = at-if2 .before in
+    simp (at-if1 .if1 .left, ne-eqb _ _ (at-if2 .if2 .left), lt-leb _ _ (at-if3 .if3 .left), ne-eqb _ _ (at-if4 .if4 .left)) (c .passed-by .ensures)
 
 pub byte-spec : {M : Type 1} → statement M
 byte-spec =

@@ -49,12 +49,17 @@ loop-less : tie.Need-loop-less Inv-loop μ-loop
 loop-less c = let e = c .before .before .before .before .run-end .ensures in omega (arith, c .before .before .if2 .left, e .inside, e .at)
 
 loop-again : tie.Need-loop-again Inv-loop μ-loop
-loop-again c = let at-loop = c .before .before .before .before .before .before .before in
+loop-again c =
+    let at-if2 = c .before .before in
+    let at-run = at-if2 .before in
+    let at-run-end = at-run .before in
+    let at-before = at-run-end .before .before in
+    let at-loop = at-before .before in
     let k = at-loop .loop .k in
-    let e = c .before .before .before .before .run-end in
+    let e = at-run-end .run-end in
     let piece = now (at-loop .before .before .args .piece) in
-    let inside : e .result < length piece = omega (arith, c .before .before .if2 .left, e .ensures .inside) in
-    let next = c .byte .ensures ∙ ap (λ (j : Keep). keepByte j (getD piece (e .result) 0)) (c .before .before .before .run .ensures) in (
+    let inside : e .result < length piece = omega (arith, at-if2 .if2 .left, e .ensures .inside) in
+    let next = c .byte .ensures ∙ ap (λ (j : Keep). keepByte j (getD piece (e .result) 0)) (at-run .run .ensures) in (
       omega arith,
       rw next (turn-counted (e .ensures) k (at-loop .loop .inv .1) _),
       rw next (sym (turn-goes (e .ensures) k (at-loop .loop .inv .1) inside) ∙ at-loop .loop .inv .2),
