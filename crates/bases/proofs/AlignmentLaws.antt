@@ -37,13 +37,13 @@ module _ (alphabet : ℕ) (reference : List ℕ) (first : ℕ) (p : Places) (e :
 -- ---- the length of what the edits bring
 
 module _ (alphabet : ℕ) (reference : List ℕ) (first mapped : ℕ) where
-  pub length-bases : (p : Places) (es : List Edit) → Sound mapped (sizeOf alphabet) (r p) es → r p ≤ mapped → length (basesFrom alphabet reference first mapped p es) ≡ mapped - r p
+  pub length-basesFrom : (p : Places) (es : List Edit) → Sound mapped (sizeOf alphabet) (r p) es → r p ≤ mapped → length (basesFrom alphabet reference first mapped p es) ≡ mapped - r p
   unfolding basesFrom
-  length-bases p [] s h = length-matched alphabet reference first (R p) (mapped - r p)
-  length-bases p (e ∷ es) s h =
+  length-basesFrom p [] s h = length-matched alphabet reference first (R p) (mapped - r p)
+  length-basesFrom p (e ∷ es) s h =
       let a = sound-accepted mapped (sizeOf alphabet) (r p) e es s in
       let q = past-read e p in
-      let i = length-bases (pastEdit e p) es (rw q (sound-tail mapped (sizeOf alphabet) (r p) e es s)) (omega (arith, a .inside)) in
+      let i = length-basesFrom (pastEdit e p) es (rw q (sound-tail mapped (sizeOf alphabet) (r p) e es s)) (omega (arith, a .inside)) in
       rw (length-append, length-edit alphabet reference first p e (a .order), i, q) (omega (arith, a .inside, a .order, next-least e))
 
 -- ---- a place in one list and then another
@@ -92,13 +92,13 @@ under-most mapped symbols p (e ∷ es) i position s u =
     (λ w. under-most mapped symbols (pastEdit e p) es i position (rw (past-read e p) (sound-tail mapped symbols (r p) e es s)) w)
     u
 
-pub edit-most : (mapped symbols next : ℕ) (es : List Edit) (i : ℕ) (d : Edit) → Sound mapped symbols next es → OfEdit es i d → i < mapped
+pub edit-below : (mapped symbols next : ℕ) (es : List Edit) (i : ℕ) (d : Edit) → Sound mapped symbols next es → OfEdit es i d → i < mapped
 unfolding OfEdit
-edit-most mapped symbols next [] i d s u = absurd u
-edit-most mapped symbols next (e ∷ es) i d s u =
+edit-below mapped symbols next [] i d s u = absurd u
+edit-below mapped symbols next (e ∷ es) i d s u =
     let a = sound-accepted mapped symbols next e es s in
     ⊎-elim (λ w. omega (arith, a .inside, next-other e (w .1 .0), w .1 .1))
-    (λ w. edit-most mapped symbols (nextOffset e) es i d (sound-tail mapped symbols next e es s) w)
+    (λ w. edit-below mapped symbols (nextOffset e) es i d (sound-tail mapped symbols next e es s) w)
     u
 
 -- its position is one of those that the edits take
@@ -212,11 +212,11 @@ module _ (alphabet : ℕ) (reference : List ℕ) (first mapped : ℕ) where
       u
 
 -- an accepted edit's symbol is inside the alphabet
-pub edit-inside : (mapped symbols next : ℕ) (es : List Edit) (i : ℕ) (d : Edit) → Sound mapped symbols next es → OfEdit es i d → d .symbol < symbols
+pub edit-symbol : (mapped symbols next : ℕ) (es : List Edit) (i : ℕ) (d : Edit) → Sound mapped symbols next es → OfEdit es i d → d .symbol < symbols
 unfolding OfEdit
-edit-inside mapped symbols next [] i d s u = absurd u
-edit-inside mapped symbols next (e ∷ es) i d s u =
+edit-symbol mapped symbols next [] i d s u = absurd u
+edit-symbol mapped symbols next (e ∷ es) i d s u =
     ⊎-elim
     (λ w. rw (ap (λ (x : Edit). x .symbol) (w .0)) at (symbol-inside mapped symbols next e (sound-head mapped symbols next e es s) (w .1 .0)))
-    (λ w. edit-inside mapped symbols (nextOffset e) es i d (sound-tail mapped symbols next e es s) w)
+    (λ w. edit-symbol mapped symbols (nextOffset e) es i d (sound-tail mapped symbols next e es s) w)
     u

@@ -138,32 +138,32 @@ module _ (class alphabet : ℕ) (l reference : List ℕ) (first position mapped 
 abbrev pub offsets : ℕ
 offsets = 2 ^ 16
 
-pub record Walk (bytes position count : ℕ) (p : Places) (left at : ℕ) : Type 0 where
+pub record BasesWalk (bytes position count : ℕ) (p : Places) (left at : ℕ) : Type 0 where
   pub less : left ≤ count
   pub reference : R p + offsets * left ≤ position + offsets * count
   pub place : at + 4 * left ≤ bytes + 4 * count
 
-pub walk-start : (bytes position count place : ℕ) {p : Places} {at : ℕ} → p ≡ beginning position → at ≡ least place bytes → Walk bytes position count p count at
+pub walk-start : (bytes position count place : ℕ) {p : Places} {at : ℕ} → p ≡ beginning position → at ≡ least place bytes → BasesWalk bytes position count p count at
 walk-start bytes position count place q h =
     record { less = omega arith; reference = omega (arith, ap (λ (x : Places). R x) q); place = omega (arith, h, least-most place bytes) }
 
-pub walk-on : (bytes position count : ℕ) (p q : Places) (left at class : ℕ) {step : ℕ} (e : Edit) → Walk bytes position count p left at → 0 < left → e .offset < offsets → q ≡ pastEdit e p → step ≡ widthOf class → Walk bytes position count q (left - 1) (at + step)
+pub walk-on : (bytes position count : ℕ) (p q : Places) (left at class : ℕ) {step : ℕ} (e : Edit) → BasesWalk bytes position count p left at → 0 < left → e .offset < offsets → q ≡ pastEdit e p → step ≡ widthOf class → BasesWalk bytes position count q (left - 1) (at + step)
 walk-on bytes position count p q left at class e w h o m s =
     record { less = omega (arith, w .less); reference = omega (arith, w .reference, past-most e p q m); place = omega (arith, w .place, width-most class) }
 
-pub walk-room : (class : ℕ) {bytes position count : ℕ} {p : Places} {left at step : ℕ} → Walk bytes position count p left at → 0 < left → step ≡ widthOf class → at + step ≤ bytes + 4 * count
+pub walk-room : (class : ℕ) {bytes position count : ℕ} {p : Places} {left at step : ℕ} → BasesWalk bytes position count p left at → 0 < left → step ≡ widthOf class → at + step ≤ bytes + 4 * count
 walk-room class w h s = omega (arith, w .place, width-most class)
 
 -- pointer R starts within 32 bits, and there are fewer than 2 ^ 32 edits
-pub walk-near : {bytes position count : ℕ} {p : Places} {left at : ℕ} → Walk bytes position count p left at → position < 2 ^ 32 → count < 2 ^ 32 → R p ≤ farthest
+pub walk-near : {bytes position count : ℕ} {p : Places} {left at : ℕ} → BasesWalk bytes position count p left at → position < 2 ^ 32 → count < 2 ^ 32 → R p ≤ farthest
 walk-near w h k = omega (arith, w .reference)
 
 -- ---- the whole read, piece by piece. Its first soft-clipped base stands at a place that is clipped to the frame
 
-pub length-text : (class alphabet : ℕ) (frame reference : List ℕ) (first position : ℕ) (s : Block) → length (basesText class alphabet frame reference first position s)
+pub length-basesText : (class alphabet : ℕ) (frame reference : List ℕ) (first position : ℕ) (s : Block) → length (basesText class alphabet frame reference first position s)
     ≡ s .clips .«left_soft» + length (mappedBases class alphabet frame reference first position (mappedLength (s .length) (s .clips)) (s .edits) (s .«edits_at»)) + s .clips .«right_soft»
 unfolding basesText
-length-text class alphabet frame reference first position s = simp (length-append, length-letters)
+length-basesText class alphabet frame reference first position s = simp (length-append, length-letters)
 
 module _ (class alphabet : ℕ) (l reference : List ℕ) (first position : ℕ) (s : Block) where
   module _ {here mapped : ℕ} (q : here ≡ least (s .«soft_at») (length l / 2)) (m : mapped ≡ mappedLength (s .length) (s .clips)) where
@@ -179,14 +179,14 @@ module _ (class alphabet : ℕ) (l reference : List ℕ) (first position : ℕ) 
 
     module _ (out : List ℕ) (at : ℕ) (room : at + 2 * length (basesText class alphabet (unhex l) reference first position s) ≤ length out) where
       pub room-left : at + 2 * (here + s .clips .«left_soft» - here) ≤ length out
-      room-left = omega (arith, length-text class alphabet (unhex l) reference first position s)
+      room-left = omega (arith, length-basesText class alphabet (unhex l) reference first position s)
 
       pub room-mapped : {b : List ℕ} {p : ℕ} → Laid out b at p (lettersAt alphabet (unhex l) here (here + s .clips .«left_soft» - here))
           → p + 2 * length (mappedBases class alphabet (unhex l) reference first position mapped (s .edits) (s .«edits_at»)) ≤ length b
       room-mapped f =
-          rw m (laid-room (here + s .clips .«left_soft» - here) (2 * length (mappedBases class alphabet (unhex l) reference first position (mappedLength (s .length) (s .clips)) (s .edits) (s .«edits_at»))) f (length-letters alphabet (unhex l) here (here + s .clips .«left_soft» - here)) (omega (arith, length-text class alphabet (unhex l) reference first position s)))
+          rw m (laid-room (here + s .clips .«left_soft» - here) (2 * length (mappedBases class alphabet (unhex l) reference first position (mappedLength (s .length) (s .clips)) (s .edits) (s .«edits_at»))) f (length-letters alphabet (unhex l) here (here + s .clips .«left_soft» - here)) (omega (arith, length-basesText class alphabet (unhex l) reference first position s)))
 
       pub room-right : {b c : List ℕ} {p z : ℕ} → Laid out b at p (lettersAt alphabet (unhex l) here (here + s .clips .«left_soft» - here))
           → Laid b c p z (mappedBases class alphabet (unhex l) reference first position mapped (s .edits) (s .«edits_at»))
           → z + 2 * (here + s .clips .«left_soft» + s .clips .«right_soft» - (here + s .clips .«left_soft»)) ≤ length c
-      room-right f g = omega (arith, length-text class alphabet (unhex l) reference first position s, f .to, g .to, length-laid f, length-laid g, ap (λ (k : ℕ). length (mappedBases class alphabet (unhex l) reference first position k (s .edits) (s .«edits_at»))) m, length-letters alphabet (unhex l) here (here + s .clips .«left_soft» - here))
+      room-right f g = omega (arith, length-basesText class alphabet (unhex l) reference first position s, f .to, g .to, length-laid f, length-laid g, ap (λ (k : ℕ). length (mappedBases class alphabet (unhex l) reference first position k (s .edits) (s .«edits_at»))) m, length-letters alphabet (unhex l) here (here + s .clips .«left_soft» - here))

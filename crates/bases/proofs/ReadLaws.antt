@@ -16,8 +16,8 @@ use Rattle.bases.specs.Reference.{baseAt}
 use Rattle.bases.specs.Bases.{beginning, lettersAt, mappedBases, basesText}
 use Rattle.bases.specs.Alignment.{UnderMatch, OfEdit, Acceptable}
 use Rattle.bases.proofs.ReferenceLaws.{length-letters}
-use Rattle.bases.proofs.BasesLaws.{length-text}
-use Rattle.bases.proofs.AlignmentLaws.{length-bases, getD-back, match-at, edit-at, from-somewhere, under-most, edit-most}
+use Rattle.bases.proofs.BasesLaws.{length-basesText}
+use Rattle.bases.proofs.AlignmentLaws.{length-basesFrom, getD-back, match-at, edit-at, from-somewhere, under-most, edit-below}
 
 pub getD-letters : (alphabet : ℕ) (s : List ℕ) (at n i : ℕ) → i < n → getD (lettersAt alphabet s at n) i 0 ≡ letterOf alphabet (getD s (at + i) 0)
 unfolding lettersAt
@@ -28,11 +28,11 @@ getD-letters alphabet s at (suc n) (suc i) h = let e : at + suc i ≡ at + 1 + i
 module _ (class alphabet : ℕ) (frame reference : List ℕ) (first position : ℕ) (s : Block) (a : Acceptable class alphabet frame s) where
   pub mapped-length : length (mappedBases class alphabet frame reference first position (mappedLength (s .length) (s .clips)) (s .edits) (s .«edits_at»)) ≡ mappedLength (s .length) (s .clips)
   mapped-length =
-      length-bases alphabet reference first (mappedLength (s .length) (s .clips)) (beginning position) (editsAt class alphabet frame (s .edits) (s .«edits_at»)) (a .edits) (omega arith)
+      length-basesFrom alphabet reference first (mappedLength (s .length) (s .clips)) (beginning position) (editsAt class alphabet frame (s .edits) (s .«edits_at»)) (a .edits) (omega arith)
       ∙ sub-zero (mappedLength (s .length) (s .clips))
 
   pub read-length : length (basesText class alphabet frame reference first position s) ≡ s .length
-  read-length = omega (arith, length-text class alphabet frame reference first position s, mapped-length, a .clips)
+  read-length = omega (arith, length-basesText class alphabet frame reference first position s, mapped-length, a .clips)
 
   -- a mapped base stands behind the left soft clip
   mapped-at : (i : ℕ) → i < mappedLength (s .length) (s .clips)
@@ -62,7 +62,7 @@ module _ (class alphabet : ℕ) (frame reference : List ℕ) (first position : �
       → getD (basesText class alphabet frame reference first position s) (s .clips .«left_soft» + i) 0 ≡ letterOf alphabet (d .symbol)
   base-of-edit i d u =
       let es = editsAt class alphabet frame (s .edits) (s .«edits_at») in
-      mapped-at i (edit-most (mappedLength (s .length) (s .clips)) (sizeOf alphabet) 0 es i d (a .edits) u)
+      mapped-at i (edit-below (mappedLength (s .length) (s .clips)) (sizeOf alphabet) 0 es i d (a .edits) u)
       ∙ rw sub-zero at (edit-at alphabet reference first (mappedLength (s .length) (s .clips)) (beginning position) es i d (a .edits) u)
 
   -- and there is no other mapped base

@@ -82,17 +82,17 @@ unfolding lettersAt
 length-letters alphabet s at zero = refl
 length-letters alphabet s at (suc n) = ap suc (length-letters alphabet s (at + 1) n)
 
-pub symbols-on : (alphabet : ℕ) (s : List ℕ) (i end : ℕ) {y size : ℕ} → size ≡ sizeOf alphabet → y ≡ getD s i 0 → i < end → y < size → symbolsRefusal alphabet s i (end - i) ≡ symbolsRefusal alphabet s (i + 1) (end - (i + 1))
+pub lent-symbols-on : (alphabet : ℕ) (s : List ℕ) (i end : ℕ) {y size : ℕ} → size ≡ sizeOf alphabet → y ≡ getD s i 0 → i < end → y < size → symbolsRefusal alphabet s i (end - i) ≡ symbolsRefusal alphabet s (i + 1) (end - (i + 1))
 unfolding symbolsRefusal
-symbols-on alphabet s i end z q h l = let e : end - i ≡ suc (end - (i + 1)) = omega (arith, add-one (end - (i + 1))) in rw (e, ← z, ← q, lt-leb _ _ l)
+lent-symbols-on alphabet s i end z q h l = let e : end - i ≡ suc (end - (i + 1)) = omega (arith, add-one (end - (i + 1))) in rw (e, ← z, ← q, lt-leb _ _ l)
 
-pub symbols-out : (alphabet : ℕ) (s : List ℕ) (i end : ℕ) {y size : ℕ} → size ≡ sizeOf alphabet → y ≡ getD s i 0 → i < end → size ≤ y → symbolsRefusal alphabet s i (end - i) ≡ symbolOut
+pub lent-symbols-out : (alphabet : ℕ) (s : List ℕ) (i end : ℕ) {y size : ℕ} → size ≡ sizeOf alphabet → y ≡ getD s i 0 → i < end → size ≤ y → symbolsRefusal alphabet s i (end - i) ≡ symbolOut
 unfolding symbolsRefusal
-symbols-out alphabet s i end z q h l = let e : end - i ≡ suc (end - (i + 1)) = omega (arith, add-one (end - (i + 1))) in rw (e, ← z, ← q, le-leb _ _ l)
+lent-symbols-out alphabet s i end z q h l = let e : end - i ≡ suc (end - (i + 1)) = omega (arith, add-one (end - (i + 1))) in rw (e, ← z, ← q, le-leb _ _ l)
 
-pub symbols-end : (alphabet : ℕ) (s : List ℕ) (i end : ℕ) → end ≤ i → symbolsRefusal alphabet s i (end - i) ≡ fine
+pub lent-symbols-end : (alphabet : ℕ) (s : List ℕ) (i end : ℕ) → end ≤ i → symbolsRefusal alphabet s i (end - i) ≡ fine
 unfolding symbolsRefusal
-symbols-end alphabet s i end h = let e : end - i ≡ 0 = omega arith in rw e
+lent-symbols-end alphabet s i end h = let e : end - i ≡ 0 = omega arith in rw e
 
 -- ---- the first of two refusals
 
@@ -105,9 +105,9 @@ first-assoc a b c = by-test (eqb a fine) (λ t. simp t) (λ t. simp t)
 -- ---- inside and outside
 
 module _ (reference : List ℕ) (first position : ℕ) where
-  pub lent-early : position < first → isLent reference first position ≡ false
+  pub lent-before : position < first → isLent reference first position ≡ false
   unfolding isLent
-  lent-early h = rw (lt-ltb position first h)
+  lent-before h = rw (lt-ltb position first h)
 
   pub lent-late : first + length reference ≤ position → isLent reference first position ≡ false
   unfolding isLent
@@ -182,8 +182,8 @@ pub record Split (lent first position n before start end : ℕ) : Type 0 where
   pub inner : start < end → position + before ≡ first + start
   pub late : (i : ℕ) → before + (end - start) ≤ i → i < n → first + lent ≤ position + i
 
-pub split : (lent first position n : ℕ) {gap before start end : ℕ} → gap ≡ first - position → before ≡ least n gap → start ≡ lentBefore lent first position → end ≡ lentBefore lent first (position + n) → Split lent first position n before start end
-split lent first position n {gap} {before} {start} {end} g q qs qe =
+pub window-split : (lent first position n : ℕ) {gap before start end : ℕ} → gap ≡ first - position → before ≡ least n gap → start ≡ lentBefore lent first position → end ≡ lentBefore lent first (position + n) → Split lent first position n before start end
+window-split lent first position n {gap} {before} {start} {end} g q qs qe =
     let qb : before ≡ least n (first - position) = q ∙ ap (λ (k : ℕ). least n k) g in
     by-test (ltb position first)
     (λ t.
@@ -239,7 +239,7 @@ module _ (alphabet : ℕ) (reference : List ℕ) (first position n : ℕ) {befor
   matched-split =
       let behind = n - before - (end - start) in
       let w : n ≡ before + (end - start) + behind = omega (arith, s .fits) in
-      let e1 = matched-padded alphabet reference first position before (λ i h. lent-early reference first (position + i) (s .early i h)) in
+      let e1 = matched-padded alphabet reference first position before (λ i h. lent-before reference first (position + i) (s .early i h)) in
       let e3 = matched-padded alphabet reference first (position + (before + (end - start))) behind (λ i h. lent-late reference first _ (let q : position + (before + (end - start)) + i ≡ position + (before + (end - start) + i) = omega arith in rw q (s .late (before + (end - start) + i) (omega arith) (omega (arith, s .fits))))) in
       ap (λ (k : ℕ). matchedBases alphabet reference first position k) w
       ∙ rw (matched-add alphabet reference first position (before + (end - start)) behind, matched-add alphabet reference first position before (end - start), e1, inside-matched, e3)
@@ -255,7 +255,7 @@ module _ (alphabet : ℕ) (reference : List ℕ) (first position n : ℕ) {befor
   match-split =
       let behind = n - before - (end - start) in
       let w : n ≡ before + (end - start) + behind = omega (arith, s .fits) in
-      let e1 = match-padded alphabet reference first position before (λ i h. lent-early reference first (position + i) (s .early i h)) in
+      let e1 = match-padded alphabet reference first position before (λ i h. lent-before reference first (position + i) (s .early i h)) in
       let e3 = match-padded alphabet reference first (position + (before + (end - start))) behind (λ i h. lent-late reference first _ (let q : position + (before + (end - start)) + i ≡ position + (before + (end - start) + i) = omega arith in rw q (s .late (before + (end - start) + i) (omega arith) (omega (arith, s .fits))))) in
       ap (λ (k : ℕ). matchRefusal alphabet reference first position k) w
       ∙ rw (match-add alphabet reference first position (before + (end - start)) behind, match-add alphabet reference first position before (end - start), e1, inside-match, e3) (first-fine (symbolsRefusal alphabet reference start (end - start)))

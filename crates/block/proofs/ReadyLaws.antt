@@ -41,13 +41,13 @@ use Rattle.block.specs.declared.aligned.AlignedRead.the-variants.{Whole,
 
 -- ---- a checked field that is accepted: its value is within, and the frame has its bytes
 
-pub record Got (frame : List ℕ) (at k least most v next : ℕ) : Type 0 where
+pub record FieldGot (frame : List ℕ) (at k least most v next : ℕ) : Type 0 where
   pub above : least ≤ v
   pub below : v ≤ most
   pub place : next ≡ at + k
   pub inside : next ≤ length frame
 
-pub length-got : (frame : List ℕ) (at v : ℕ) (c : Cursor) → lengthAt frame at ≡ field.Value v c → Got frame at 2 1 mostRead v (c .at)
+pub length-got : (frame : List ℕ) (at v : ℕ) (c : Cursor) → lengthAt frame at ≡ field.Value v c → FieldGot frame at 2 1 mostRead v (c .at)
 unfolding lengthAt
 length-got frame at v c q =
     let never : (n : ℕ) → field.Refused n ≡ field.Value v c → ⊥ = λ n e. (let z : _≡_ {A = ℕ} 0 1 = cc in omega arith) in
@@ -58,7 +58,7 @@ length-got frame at v c q =
     let p : c .at ≡ at + 2 = cc (b .1) in
     record { above = omega (arith, a .0); below = omega (arith, b .0); place = p; inside = omega (arith, f .fits) }
 
-pub rcomp-got : (frame : List ℕ) (at v : ℕ) (c : Cursor) → rcompAt frame at ≡ field.Value v c → Got frame at 1 0 1 v (c .at)
+pub rcomp-got : (frame : List ℕ) (at v : ℕ) (c : Cursor) → rcompAt frame at ≡ field.Value v c → FieldGot frame at 1 0 1 v (c .at)
 unfolding rcompAt
 rcomp-got frame at v c q =
     let never : (n : ℕ) → field.Refused n ≡ field.Value v c → ⊥ = λ n e. (let z : _≡_ {A = ℕ} 0 1 = cc in omega arith) in
@@ -68,7 +68,7 @@ rcomp-got frame at v c q =
     let p : c .at ≡ at + 1 = cc (a .1) in
     record { above = omega arith; below = omega (arith, a .0); place = p; inside = omega (arith, f .fits) }
 
-pub count-got : (frame : List ℕ) (at v : ℕ) (c : Cursor) → countAt frame at ≡ field.Value v c → Got frame at 2 0 mostEdits v (c .at)
+pub count-got : (frame : List ℕ) (at v : ℕ) (c : Cursor) → countAt frame at ≡ field.Value v c → FieldGot frame at 2 0 mostEdits v (c .at)
 unfolding countAt
 count-got frame at v c q =
     let never : (n : ℕ) → field.Refused n ≡ field.Value v c → ⊥ = λ n e. (let z : _≡_ {A = ℕ} 0 1 = cc in omega arith) in

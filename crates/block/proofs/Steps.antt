@@ -21,11 +21,11 @@ use Rattle.block.specs.declared.aligned.AlignedRead.the-variants as bloc
 -- ---- a checked field
 
 module _ {A : Type 0} (x : A) (answer field : CheckedField) (refused : ℕ → A) (f : ℕ → Cursor → A) where
-  pub accepted : (v : ℕ) (c : Cursor) → answer ≡ field → answer ≡ Value v c → x ≡ f v c → x ≡ afterChecked refused field f
-  accepted v c e h k = rw (← e, h) k
+  pub field-accepted : (v : ℕ) (c : Cursor) → answer ≡ field → answer ≡ Value v c → x ≡ f v c → x ≡ afterChecked refused field f
+  field-accepted v c e h k = rw (← e, h) k
 
-  pub rejected : (n : ℕ) → answer ≡ field → answer ≡ Refused n → x ≡ refused n → x ≡ afterChecked refused field f
-  rejected n e h k = rw (← e, h) k
+  pub field-rejected : (n : ℕ) → answer ≡ field → answer ≡ Refused n → x ≡ refused n → x ≡ afterChecked refused field f
+  field-rejected n e h k = rw (← e, h) k
 
 -- ---- the clips
 

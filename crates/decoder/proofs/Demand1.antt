@@ -18,7 +18,7 @@ use Rattle.front.specs.ReferenceLine.{referenceLine, referenceAfter}
 use Rattle.front.specs.declared.pair_line.PairLine.the-variants as pair
 use Rattle.front.specs.declared.reference_line.ReferenceLine.the-variants as reference
 use Rattle.front.proofs.PairLaws.{table-kept}
-use Rattle.front.proofs.ReferenceLaws.{reference-kept}
+use Rattle.front.proofs.ReferenceLaws.{bases-kept}
 use Rattle.listing.specs.Lines.{linesOf}
 use Rattle.listing.specs.Files.{good, wrong}
 use Rattle.listing.specs.Listing.{line05, Each}
@@ -41,7 +41,7 @@ refused-pair-line-changes-nothing line i table n e = sym (table-kept line i n ta
 
 -- a reference line that is refused leaves the lent bases as they were
 pub refused-reference-line-changes-nothing : (line : List ℕ) (used : ℕ) (bases : List ℕ) (n : ℕ) → referenceLine line used (length bases) ≡ reference.Refused n → referenceAfter line used bases ≡ bases
-refused-reference-line-changes-nothing line used bases n e = sym (reference-kept line used n bases refl (sym e) .1)
+refused-reference-line-changes-nothing line used bases n e = sym (bases-kept line used n bases refl (sym e) .1)
 
 -- a turn that is lent less than the longest line needs changes nothing
 pub short-turn-changes-nothing : (u : Unit) (reference symbols counts : List ℕ) (state : State) (line out : List ℕ) → length out ≤ mostListed

@@ -10,11 +10,11 @@ use lib.ListN.{length, getD, drop, length-drop}
 use lib.Seq.{ext-getD}
 use Rattle.refusal.specs.Numbers.{missing}
 use Rattle.unit.specs.State.{subsequences, freshState}
-use Rattle.listing.specs.Lines.{same}
+use Rattle.listing.specs.Lines.{sameList}
 use Rattle.listing.specs.Listing.{line05, line06, lastLine, firstOf, restOf}
 use Rattle.listing.specs.Resuming.{lastFrom}
 use Rattle.listing.proofs.LinesLaws.{same-not}
-use Rattle.listing.proofs.EndLaws.{LastBy, by-call, by-end, by-rest, ended}
+use Rattle.listing.proofs.EndLaws.{LastBy, by-call, by-end, by-rest, records-ended}
 use Rattle.decoder.specs.Decoder.{Opened, setupIn, firstListed, restListed}
 use Rattle.decoder.specs.Symbols.{symbolsTaken}
 use Rattle.decoder.specs.Ending.{refusedBy, linesRunOut, lineLeft, symbolLeft, Ending, done, stopped}
@@ -39,9 +39,9 @@ module _ {refFile unitFile : List ℕ} (o : Opened refFile unitFile) where
   rest-ending (l ∷ ls) e long is =
       stopped (o .unit .records) missing long refl
       (lineLeft refl (omega (arith, length-drop (o .unit .records) (o .lines), ap length e)))
-  rest-ending [] e long is = by (same (reached o (o .unit .records) .index) (setupIn o .counts)) refl is
+  rest-ending [] e long is = by (sameList (reached o (o .unit .records) .index) (setupIn o .counts)) refl is
     where
-      by : (t : Bool) → same (reached o (o .unit .records) .index) (setupIn o .counts) ≡ t
+      by : (t : Bool) → sameList (reached o (o .unit .records) .index) (setupIn o .counts) ≡ t
           → lastFrom (firstListed refFile unitFile) (restListed refFile unitFile) ≡ cond t (line06 (o .unit .records)) (line05 (o .unit .records) missing)
           → Ending o (cond t (line06 (o .unit .records)) (line05 (o .unit .records) missing))
       by true t q = done refl (opened-done o (o .unit .records) (rw (opened-front o) at q))
@@ -63,5 +63,5 @@ module _ {refFile unitFile : List ℕ} (o : Opened refFile unitFile) where
   pub opened-ending : Ending o (lastFrom (firstListed refFile unitFile) (restListed refFile unitFile))
   unfolding firstOf restOf
   opened-ending =
-      let w = ended (opened-lawful o) (o .unit .records) freshState (o .lines) (o .first) refl in
+      let w = records-ended (opened-lawful o) (o .unit .records) freshState (o .lines) (o .first) refl in
       last-ending (w .count) (rw (opened-front o) (w .last)) (w .number ∙ zero-add (w .count)) (rw (opened-front o) (w .lines)) refl

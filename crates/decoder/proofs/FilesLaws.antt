@@ -88,17 +88,17 @@ pub unit-records : (line : List ℕ) (u : Unit) → readUnit line ≡ good u →
 unit-records line u e = valid-is u (unit-valid line u (unit-read line u e)) .records
 
 -- a pair line's symbols are those behind its count, no more than the limit
-pub record IsRow (i : ℕ) (line row : List ℕ) : Type 0 where
+pub record RowOfLine (i : ℕ) (line row : List ℕ) : Type 0 where
   pub count : ℕ
   pub read : pair.Count count ≡ pairLine line i tableLength
   pub symbols : row ≡ symbolList count (unhex line) pairHead
   pub most : length row ≤ mostSymbols
 
-pub pair-row : (i : ℕ) (line row : List ℕ) → readPair i line ≡ good row → IsRow i line row
+pub pair-row : (i : ℕ) (line row : List ℕ) → readPair i line ≡ good row → RowOfLine i line row
 unfolding readPair
 pair-row i line row e = by (pairLine line i tableLength) refl e
   where
-    by : (r : PairLine) → r ≡ pairLine line i tableLength → symbolsBy line r ≡ good row → IsRow i line row
+    by : (r : PairLine) → r ≡ pairLine line i tableLength → symbolsBy line r ≡ good row → RowOfLine i line row
     by (pair.Count n) h q =
         let z : row ≡ symbolList n (unhex line) pairHead = cc in
         record { count = n; read = h; symbols = z; most = rw (z, length-symbols) (pair-accepted line i tableLength n h .pair .most) }

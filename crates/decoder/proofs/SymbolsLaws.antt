@@ -25,7 +25,7 @@ use Rattle.pairing.proofs.Taking.{raised-same, raised-other, raised-long}
 use Rattle.pairing.proofs.Laws.{pair-follows, pair-reads}
 use Rattle.record.specs.Record.{stepOf}
 use Rattle.record.proofs.RecordLaws.{step-taken, step-accepted}
-use Rattle.listing.specs.Lines.{same}
+use Rattle.listing.specs.Lines.{sameList}
 use Rattle.listing.specs.Record.{Setup, Accepted, Lawful}
 use Rattle.listing.specs.Listing.{Front, alone, unpaired, ready, line06, onStep, records, onAccepted, stateBehind, firstOf, restOf, LawfulFront, Finished, lastLine}
 use Rattle.listing.specs.Resuming.{lastFrom}
@@ -177,7 +177,7 @@ call-at {E} w (suc k) state (l ∷ ls) x (suc i) h = by (E .step state l) refl h
 -- a closing 06 line carries the record count
 closing-count : (E : Setup) (state : State) (ls : List (List ℕ)) (q : ℕ) → lastLine E state ls ≡ line06 q → lastLine E state ls ≡ line06 (E .count)
 unfolding lastLine
-closing-count E state [] q e = by-test (same (state .index) (E .counts)) (λ t. simp t) (λ t. not-06 (E .count) missing q (simp t at e))
+closing-count E state [] q e = by-test (sameList (state .index) (E .counts)) (λ t. simp t) (λ t. not-06 (E .count) missing q (simp t at e))
 closing-count E state (l ∷ ls) q e = not-06 (E .count) missing q e
 
 -- where the last line is 06, each record has its line

@@ -10,7 +10,7 @@ ghost use mathlib.Core.List.{[]};
 ghost use Prim.Native.Nat.{_<_};
 ghost use lib.ListN.{length};
 ghost use Rattle.unit.specs.Listed.{mostListed};
-ghost use Rattle.listing.specs.Lines.{same};
+ghost use Rattle.listing.specs.Lines.{sameList};
 ghost use Rattle.listing.specs.Listing.{line05, line06};
 ghost use Rattle.listing.specs.Turn.{stop, recordTurn, lastTurn};
 ghost use Rattle.decoder.specs.Decoder.{setupOf};
@@ -67,7 +67,7 @@ fn finish(out: &mut [u8], count: u32, state: State) -> Turned
 
 // Whether every pair symbol is taken.
 fn all_taken(index: [u32; State::SUBSEQUENCES], counts: &[u32]) -> bool
-    ensures { λ r. ⌜ r ≡ same index (now (counts .entry)) ⌝ }
+    ensures { λ r. ⌜ r ≡ sameList index (now (counts .entry)) ⌝ }
 {
     if counts.len() != State::SUBSEQUENCES {
         return false;

@@ -27,7 +27,7 @@ use Rattle.ecigar.specs.Ecigar.{setOut, joinsRun, past, matches, openRun
 use Rattle.ecigar.proofs.PrintLaws.{length-counted, length-printed}
 use Rattle.ecigar.proofs.WalkLaws.{Open, length-mark, ending-both, text-on, text-end, past-next, past-kind, past-open, past-joined, past-apart, joins-true, matches-most, closed-most, edit-most, clip-soft, clip-hard, clip-none}
 use Rattle.ecigar.proofs.CheckLaws.{checked-fine}
-use Rattle.ecigar.proofs.TextLaws.{length-text}
+use Rattle.ecigar.proofs.TextLaws.{length-ecigarText}
 
 -- ---- no count is 0
 
@@ -341,7 +341,7 @@ pub ecigar-most : (class alphabet : ℕ) (frame : List ℕ) (s : Block) → s .e
 ecigar-most class alphabet frame s few short c sound =
     omega (
       arith,
-      length-text class alphabet frame s,
+      length-ecigarText class alphabet frame s,
       edits-most alphabet (mappedLength (s .length) (s .clips)) (sizeOf alphabet) (blockEdits class alphabet frame s) sound,
       length-edits class alphabet frame (s .edits) (s .«edits_at»),
       clip-most (s .clips .«left_soft») (s .clips .«left_hard») (c .left-soft) (c .left-hard),

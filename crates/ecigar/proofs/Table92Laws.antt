@@ -24,7 +24,7 @@ use Rattle.ecigar.specs.Table93.{item, decodeECigarMismatches}
 use Rattle.ecigar.specs.Table92.{leftClipped, rightClipped, ecigarString, offsetsOf, lettersIn, typesOf}
 use Rattle.ecigar.proofs.WalkLaws.{matches-some, clip-soft, clip-hard, clip-none}
 use Rattle.ecigar.proofs.TextLaws.{text-parts}
-use Rattle.ecigar.proofs.Table93Laws.{Each, none, more, item-here, end-plain, indel-text, mismatch-text}
+use Rattle.ecigar.proofs.Table93Laws.{EachEdit, none, more, item-here, end-plain, indel-text, mismatch-text}
 
 -- ---- the edits of a class
 
@@ -35,13 +35,13 @@ IsN alphabet e = (e .kind ≡ substitution) × (e .symbol ≡ codeOfN alphabet)
 abbrev IsM : Edit → Type 0
 IsM e = e .kind ≡ substitution
 
-each-n : (class alphabet : ℕ) (frame : List ℕ) (k at : ℕ) → class ≡ classN → Each (IsN alphabet) (editsAt class alphabet frame k at)
+each-n : (class alphabet : ℕ) (frame : List ℕ) (k at : ℕ) → class ≡ classN → EachEdit (IsN alphabet) (editsAt class alphabet frame k at)
 unfolding editsAt editAt
 each-n class alphabet frame zero at h = none
 each-n class alphabet frame (suc k) at h =
     more (editAt class alphabet frame at) (simp (eq-eqb _ _ h), simp (eq-eqb _ _ h)) (each-n class alphabet frame k (at + widthOf class) h)
 
-each-m : (class alphabet : ℕ) (frame : List ℕ) (k at : ℕ) → class ≡ classM → Each IsM (editsAt class alphabet frame k at)
+each-m : (class alphabet : ℕ) (frame : List ℕ) (k at : ℕ) → class ≡ classM → EachEdit IsM (editsAt class alphabet frame k at)
 unfolding editsAt editAt
 each-m class alphabet frame zero at h = none
 each-m class alphabet frame (suc k) at h =

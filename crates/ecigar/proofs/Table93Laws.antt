@@ -302,14 +302,14 @@ module _ (alphabet len symbols : ℕ) (es : List Edit) where
 -- ---- Class_N and Class_M
 
 -- each edit of a list
-pub data Each (P : Edit → Type 0) : List Edit → Type 0 where
-  none : Each P []
-  more : (e : Edit) {es : List Edit} → P e → Each P es → Each P (e ∷ es)
+pub data EachEdit (P : Edit → Type 0) : List Edit → Type 0 where
+  none : EachEdit P []
+  more : (e : Edit) {es : List Edit} → P e → EachEdit P es → EachEdit P (e ∷ es)
 
 -- a substitution, which the loop writes as this character
 module _ (alphabet len symbols : ℕ) (character : ℕ → ℕ) (P : Edit → Type 0) (letters : (e : Edit) → P e → e .kind ≡ substitution) (es : List Edit)
     (written : (i : ℕ) (e : Edit) (rest : List Edit) → drop i es ≡ e ∷ rest → P e → character i ≡ letterOf alphabet (e .symbol)) where
-  mismatch-on : (rest : List Edit) → Each P rest → (left i : ℕ) (w : Walk) (text : List ℕ) → drop i es ≡ rest → length rest ≤ left → w .kind ≡ substitution → Sound len symbols (w .next) rest
+  mismatch-on : (rest : List Edit) → EachEdit P rest → (left i : ℕ) (w : Walk) (text : List ℕ) → drop i es ≡ rest → length rest ≤ left → w .kind ≡ substitution → Sound len symbols (w .next) rest
       → mismatchLoop character len (length es) (offsetsOf es) left i (w .next) text ≡ text ++ printAll (operationsFrom alphabet len w rest)
   unfolding mismatchLoop
   mismatch-on [] a zero i w text q h k s = rw (end-plain alphabet len w k) (with-match text (len - w .next))
@@ -332,5 +332,5 @@ module _ (alphabet len symbols : ℕ) (character : ℕ → ℕ) (P : Edit → Ty
       (go (text ++ decimal (e .offset - w .next) ++ equalsSign ∷ [] ++ b ∷ [])
       ∙ rw (plain-on alphabet len symbols es w e rest k, mark-letter alphabet e z, matches-some (e .offset - w .next) (eqb-false _ _ d)) (simp append-assoc))))
 
-  pub mismatch-text : Each P es → Sound len symbols 0 es → mismatchLoop character len (length es) (offsetsOf es) (length es) 0 0 [] ≡ printAll (operationsFrom alphabet len setOut es)
+  pub mismatch-text : EachEdit P es → Sound len symbols 0 es → mismatchLoop character len (length es) (offsetsOf es) (length es) 0 0 [] ≡ printAll (operationsFrom alphabet len setOut es)
   mismatch-text a s = mismatch-on es a (length es) 0 setOut [] refl (omega arith) refl s

@@ -54,9 +54,9 @@ text-parts class alphabet frame s =
     let es = operationsOf alphabet (mappedLength (s .length) (s .clips)) (blockEdits class alphabet frame s) in
     rw (printed-append (leftClip (s .clips) ++ es) (rightClip (s .clips)), printed-append (leftClip (s .clips)) es)
 
-pub length-text : (class alphabet : ℕ) (frame : List ℕ) (s : Block) → length (ecigarText class alphabet frame s)
+pub length-ecigarText : (class alphabet : ℕ) (frame : List ℕ) (s : Block) → length (ecigarText class alphabet frame s)
     ≡ length (printAll (leftClip (s .clips))) + length (ecigarOf alphabet (mappedLength (s .length) (s .clips)) (blockEdits class alphabet frame s)) + length (printAll (rightClip (s .clips)))
-length-text class alphabet frame s = rw (text-parts class alphabet frame s, length-append, length-append)
+length-ecigarText class alphabet frame s = rw (text-parts class alphabet frame s, length-append, length-append)
 
 -- ---- from the check to the writer
 
@@ -65,4 +65,4 @@ module _ (class alphabet : ℕ) (frame : List ℕ) (s : Block) (taken text : ℕ
   -- the length that `check` and `clips_len` answer together is the text's
   pub checked-length : length (ecigarText class alphabet frame s) ≡ text + clipsLength (s .clips)
   unfolding clipsLength
-  checked-length = omega (arith, length-text class alphabet frame s, checked-fine class alphabet frame (s .«edits_at») (s .edits) (mappedLength (s .length) (s .clips)) taken text checked .text)
+  checked-length = omega (arith, length-ecigarText class alphabet frame s, checked-fine class alphabet frame (s .«edits_at») (s .edits) (mappedLength (s .length) (s .clips)) taken text checked .text)

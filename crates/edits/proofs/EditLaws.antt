@@ -80,9 +80,9 @@ pub record EditAccepted (mapped symbols next : ℕ) (e : Edit) : Type 0 where
   pub inside : nextOffset e ≤ mapped
   pub kind : e .kind ≤ deletion
 
-pub accepted : (mapped symbols next : ℕ) (e : Edit) → editRefusal mapped symbols next e ≡ fine → EditAccepted mapped symbols next e
+pub edit-accepted : (mapped symbols next : ℕ) (e : Edit) → editRefusal mapped symbols next e ≡ fine → EditAccepted mapped symbols next e
 unfolding editRefusal deletionRefusal
-accepted mapped symbols next e z =
+edit-accepted mapped symbols next e z =
     by-test (ltb deletion (e .kind)) (λ a. let y = simp a at z in absurd (omega arith))
     (λ a.
     let k = ltb-false deletion (e .kind) a in
@@ -135,7 +135,7 @@ sound-tail mapped symbols next e es p = p .1
 
 -- the first of them is accepted
 pub sound-accepted : (mapped symbols next : ℕ) (e : Edit) (es : List Edit) → Sound mapped symbols next (e ∷ es) → EditAccepted mapped symbols next e
-sound-accepted mapped symbols next e es p = accepted mapped symbols next e (sound-head mapped symbols next e es p)
+sound-accepted mapped symbols next e es p = edit-accepted mapped symbols next e (sound-head mapped symbols next e es p)
 
 -- past the frame's end every edit reads alike
 edit-past : (class alphabet : ℕ) (l : List ℕ) (a b : ℕ) → length l / 2 ≤ a → length l / 2 ≤ b → editAt class alphabet (unhex l) a ≡ editAt class alphabet (unhex l) b

@@ -27,5 +27,5 @@ edit-at-once class alphabet frame at p q = once p q
 pub next-offset-once : (e : Edit) {x y : ℕ} → x ≡ nextOffset e → y ≡ nextOffset e → x ≡ y
 next-offset-once e p q = once p q
 
-pub refusal-once : (mapped symbols next : ℕ) (e : Edit) {x y : ℕ} → x ≡ editRefusal mapped symbols next e → y ≡ editRefusal mapped symbols next e → x ≡ y
-refusal-once mapped symbols next e p q = once p q
+pub edit-refusal-once : (mapped symbols next : ℕ) (e : Edit) {x y : ℕ} → x ≡ editRefusal mapped symbols next e → y ≡ editRefusal mapped symbols next e → x ≡ y
+edit-refusal-once mapped symbols next e p q = once p q

@@ -22,11 +22,11 @@ use Rattle.frame.proofs.StepLaws.{past-line, past-field, past-refusal, past-mat
 
 -- ---- the bases of a line, counted in its digits
 
-pub length-bases : (l : List ℕ) → length (basesOf (unhex l)) ≡ length l / 2 - 1
-length-bases l = rw (length-drop, length-unhex)
+pub length-basesOf : (l : List ℕ) → length (basesOf (unhex l)) ≡ length l / 2 - 1
+length-basesOf l = rw (length-drop, length-unhex)
 
-pub counted : (x : ReferenceLine) (l : List ℕ) (used places : ℕ) → x ≡ addedBases (length l / 2 - 1) used places → x ≡ addedBases (length (basesOf (unhex l))) used places
-counted x l used places e = rw (length-bases l) e
+pub added-counted : (x : ReferenceLine) (l : List ℕ) (used places : ℕ) → x ≡ addedBases (length l / 2 - 1) used places → x ≡ addedBases (length (basesOf (unhex l))) used places
+added-counted x l used places e = rw (length-basesOf l) e
 
 -- the next one of those that are left
 pub bases-next : (l : List ℕ) (i : ℕ) → i < length l / 2 → drop i (unhex l) ≡ getD (unhex l) i 0 ∷ drop (i + 1) (unhex l)
@@ -76,9 +76,9 @@ reference-accepted line used places all e =
 -- ---- the answer and the reference after it, as one
 
 module _ (line : List ℕ) (used n : ℕ) (t : List ℕ) where
-  pub reference-kept : {r : ReferenceLine} → r ≡ Refused n → r ≡ referenceLine line used (length t) → (r ≡ referenceLine line used (length t)) × (t ≡ referenceAfter line used t)
+  pub bases-kept : {r : ReferenceLine} → r ≡ Refused n → r ≡ referenceLine line used (length t) → (r ≡ referenceLine line used (length t)) × (t ≡ referenceAfter line used t)
   unfolding referenceAfter referenceBy
-  reference-kept q e = (e, rw (← e, q))
+  bases-kept q e = (e, rw (← e, q))
 
   pub reference-stored : {r : ReferenceLine} {u : List ℕ} → r ≡ Bases n → r ≡ referenceLine line used (length t) → u ≡ storedAt t used (basesOf (unhex line))
       → (r ≡ referenceLine line used (length t)) × (u ≡ referenceAfter line used t)
@@ -107,4 +107,4 @@ length-reference line used t = by (referenceLine line used (length t)) refl
   where
     by : (r : ReferenceLine) → r ≡ referenceLine line used (length t) → length (referenceAfter line used t) ≡ length t
     by (Bases n) e = ap length (reference-is line used n t e) ∙ length-stored t used _ (bases-fit line used n t e)
-    by (Refused n) e = ap length (sym (reference-kept line used n t refl e .1))
+    by (Refused n) e = ap length (sym (bases-kept line used n t refl e .1))

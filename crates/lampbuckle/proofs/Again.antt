@@ -16,7 +16,7 @@ use Rattle.unit.specs.declared.State.{State}
 use Rattle.record.specs.Record.{stepOf, withRoom, recordOf}
 use Rattle.record.proofs.RecordLaws.{step-accepted}
 use Rattle.frame.specs.Hex.{unhex}
-use Rattle.listing.specs.Lines.{same}
+use Rattle.listing.specs.Lines.{sameList}
 use Rattle.listing.specs.Resuming.{Last, stateAt, Edges, nothing, edges, onLast, placeBy}
 use Rattle.listing.proofs.LastLaws.{length-wordsAt, Sorted, listed, closed05, closed06, other, sorted}
 use Rattle.resuming.specs.Last.{placedOf}
@@ -84,6 +84,6 @@ place-state-again first count counts e eight = state-again (placedOf (placeBy fi
     by : (e : Edges) → length (placedOf (placeBy first count counts e) .state .index) ≡ subsequences
     by nothing = refl
     by (edges a z) =
-        by-test (same a first)
-        (λ t. rw t (by-test (same z first) (λ u. rw u refl) (λ u. rw u (said z (sorted count counts z eight)))))
+        by-test (sameList a first)
+        (λ t. rw t (by-test (sameList z first) (λ u. rw u refl) (λ u. rw u (said z (sorted count counts z eight)))))
         (λ t. rw t refl)

@@ -19,7 +19,7 @@ use Rattle.front.specs.declared.pair_line.PairLine.the-variants as pair
 use Rattle.front.specs.declared.reference_line.ReferenceLine.{ReferenceLine}
 use Rattle.front.specs.declared.reference_line.ReferenceLine.the-variants as reference
 use Rattle.front.proofs.PairLaws.{table-kept, pair-accepted}
-use Rattle.front.proofs.ReferenceLaws.{reference-kept, reference-accepted}
+use Rattle.front.proofs.ReferenceLaws.{bases-kept, reference-accepted}
 use Rattle.lampbuckle.specs.Answer.{minus, outcome}
 use Rattle.lampbuckle.specs.Numbers.{unitLength, unitNumbers}
 use Rattle.lampbuckle.specs.Lines.{unitCall, pairCall, referenceCall}
@@ -28,21 +28,21 @@ use Rattle.lampbuckle.specs.Lines.{unitCall, pairCall, referenceCall}
 
 module _ {a : ℤ} (line lent : List ℕ) where
   module _ (shape : length lent ≡ unitLength) {r : UnitLine} (is : r ≡ unitLine line) where
-    pub unit-refused : {n : ℕ} → r ≡ unit.Refused n → a ≡ minus n → outcome a (lent ∷ []) ≡ unitCall line lent
+    pub unit-call-refused : {n : ℕ} → r ≡ unit.Refused n → a ≡ minus n → outcome a (lent ∷ []) ≡ unitCall line lent
     unfolding unitCall
-    unit-refused h e = rw (eq-eqb _ _ shape, ← is, h, e)
+    unit-call-refused h e = rw (eq-eqb _ _ shape, ← is, h, e)
 
-    pub unit-read : {u : Unit} {after : List ℕ} → r ≡ unit.Read u → after ≡ unitNumbers u → a ≡ pos (length line) → outcome a (after ∷ []) ≡ unitCall line lent
+    pub unit-call-read : {u : Unit} {after : List ℕ} → r ≡ unit.Read u → after ≡ unitNumbers u → a ≡ pos (length line) → outcome a (after ∷ []) ≡ unitCall line lent
     unfolding unitCall
-    unit-read h s e = rw (eq-eqb _ _ shape, ← is, h, e, s)
+    unit-call-read h s e = rw (eq-eqb _ _ shape, ← is, h, e, s)
 
 -- ---- a pair line
 
 module _ (line : List ℕ) (number : ℕ) (table counts : List ℕ) where
   module _ (shape : length counts ≡ subsequences) {r : PairLine} {after : List ℕ} (is : (r ≡ pairLine line number (length table)) × (after ≡ tableAfter line number table)) where
-    pub pair-refused : {a : ℤ} {n : ℕ} → r ≡ pair.Refused n → a ≡ minus n → outcome a (after ∷ counts ∷ []) ≡ pairCall line number table counts
+    pub pair-call-refused : {a : ℤ} {n : ℕ} → r ≡ pair.Refused n → a ≡ minus n → outcome a (after ∷ counts ∷ []) ≡ pairCall line number table counts
     unfolding pairCall
-    pair-refused {a} {n} h e =
+    pair-call-refused {a} {n} h e =
         let same : after ≡ table = is .1 ∙ sym (table-kept line number n table h (is .0) .1) in
         rw (eq-eqb _ _ shape, ← is .0, h, e, same)
 
@@ -58,10 +58,10 @@ module _ (line : List ℕ) (number : ℕ) (table counts : List ℕ) where
 
 module _ (line lent : List ℕ) (used : ℕ) {r : ReferenceLine} {after : List ℕ}
     (is : (r ≡ referenceLine line used (length lent)) × (after ≡ referenceAfter line used lent)) {n : ℕ} where
-  pub reference-refused : {a : ℤ} → r ≡ reference.Refused n → a ≡ minus n → outcome a (after ∷ []) ≡ referenceCall line lent used
+  pub reference-call-refused : {a : ℤ} → r ≡ reference.Refused n → a ≡ minus n → outcome a (after ∷ []) ≡ referenceCall line lent used
   unfolding referenceCall
-  reference-refused h e =
-      let same : after ≡ lent = is .1 ∙ sym (reference-kept line used n lent h (is .0) .1) in
+  reference-call-refused h e =
+      let same : after ≡ lent = is .1 ∙ sym (bases-kept line used n lent h (is .0) .1) in
       rw (← is .0, h, e, same)
 
   pub reference-read : {a : ℤ} → r ≡ reference.Bases n → a ≡ pos n → outcome a (after ∷ []) ≡ referenceCall line lent used

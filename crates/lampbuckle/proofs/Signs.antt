@@ -29,7 +29,7 @@ use Rattle.front.specs.declared.reference_line.ReferenceLine.the-variants as re
 use Rattle.front.proofs.RefusalLaws.{unit-refusal, pair-refusal, reference-refusal}
 use Rattle.record.specs.Record.{recordOf}
 use Rattle.record.proofs.RefusalLaws.{record-refusal}
-use Rattle.listing.specs.Lines.{same}
+use Rattle.listing.specs.Lines.{sameList}
 use Rattle.listing.specs.Resuming.{Last, goOn, whole, bad, lastOf, Edges, nothing, edges, edgesFrom, Place, afresh, second, on, over, no, onLast, placeBy}
 use Rattle.resuming.specs.Last.{placedOf}
 use Rattle.lampbuckle.specs.Answer.{minus, Outcome}
@@ -188,8 +188,8 @@ place-signed listed count counts first last lent =
     by : (e : Edges) → SignedPlace (placeBy listed count counts e)
     by nothing = is-accepted tt (pos-told 0 refl)
     by (edges a z) =
-        one-of SignedPlace (same a listed) _ _
-        (one-of SignedPlace (same z listed) _ _ (is-accepted tt (pos-told 1 refl)) (on-last (lastOf count counts z)))
+        one-of SignedPlace (sameList a listed) _ _
+        (one-of SignedPlace (sameList z listed) _ _ (is-accepted tt (pos-told 1 refl)) (on-last (lastOf count counts z)))
         (is-refused (λ o. o) (minus-told otherFirst (lit< tt, lit≤ tt) refl))
 
 pub pass-signed : (piece lent : List ℕ) → Signed (passCall piece lent) (length lent ≡ wantedLength)

@@ -38,9 +38,9 @@ module _ (frame out : List ℕ) {r : Wrote} {after : List ℕ} (is : (r ≡ wrot
 
 module _ (numbers out : List ℕ) {a : ℤ} where
   module _ (shape : length numbers ≡ unitLength) {u : Unit} (is : u ≡ unitOf numbers) {n : ℕ} (by : n ≡ unitRefusal u) where
-    pub unit-refused : (n ≡ fine → ⊥) → a ≡ minus n → outcome a (out ∷ []) ≡ unitWritten numbers out
+    pub unit-written-refused : (n ≡ fine → ⊥) → a ≡ minus n → outcome a (out ∷ []) ≡ unitWritten numbers out
     unfolding unitWritten unitNumbersRefusal
-    unit-refused h e = rw (eq-eqb _ _ shape, ← is, ← by, ne-eqb _ _ h, e)
+    unit-written-refused h e = rw (eq-eqb _ _ shape, ← is, ← by, ne-eqb _ _ h, e)
 
     pub unit-written : n ≡ fine → {r : Wrote} {after : List ℕ} → (r ≡ wroteOf out (unitBytes u)) × (after ≡ lineInto out (unitBytes u)) → a ≡ wrote r
         → outcome a (after ∷ []) ≡ unitWritten numbers out

@@ -33,11 +33,11 @@ later l (by-end h e) = by-end (omega arith) (ap suc e)
 later l (by-rest e h) = by-rest (ap suc e) (omega arith)
 
 module _ {E : Setup} (w : Lawful E) where
-  pub ended : (k : ℕ) (s : State) (ls : List (List ℕ)) (z : List ℕ) → length (s .index) ≡ subsequences → Ended E k s ls z
+  pub records-ended : (k : ℕ) (s : State) (ls : List (List ℕ)) (z : List ℕ) → length (s .index) ≡ subsequences → Ended E k s ls z
   unfolding records lastFrom stateBehind
-  ended zero s ls z x = record { count = 0; lines = refl; number = omega arith; last = by-rest refl (omega arith) }
-  ended (suc k) s [] z x = record { count = 0; lines = refl; number = omega arith; last = by-end (omega arith) refl }
-  ended (suc k) s (l ∷ ls) z x = by (E .step s l) refl (λ next y. ended k next ls y)
+  records-ended zero s ls z x = record { count = 0; lines = refl; number = omega arith; last = by-rest refl (omega arith) }
+  records-ended (suc k) s [] z x = record { count = 0; lines = refl; number = omega arith; last = by-end (omega arith) refl }
+  records-ended (suc k) s (l ∷ ls) z x = by (E .step s l) refl (λ next y. records-ended k next ls y)
     where
       by : (t : Step) → E .step s l ≡ t → ((next : State) (y : List ℕ) → length (next .index) ≡ subsequences → Ended E k next ls y) → Ended E (suc k) s (l ∷ ls) z
       by (refused n) e go = record { count = 0; lines = rw e; number = omega arith; last = rw e (by-call n (omega arith) (omega arith) e) }

@@ -278,8 +278,8 @@ module _ (count : ℕ) (counts line : List ℕ) (all : length counts ≡ subsequ
 
   -- and back: what each sort of line says
 
-  pub said-listed : ContinuableLine count counts line → lastOf count counts line ≡ goOn (stateAt (unhex line))
-  said-listed w = by sorted
+  pub listed-believed : ContinuableLine count counts line → lastOf count counts line ≡ goOn (stateAt (unhex line))
+  listed-believed w = by sorted
     where
       by : {t : Last} → Sorted count counts line t → t ≡ goOn (stateAt (unhex line))
       by (listed v) = refl

@@ -20,7 +20,7 @@ use Rattle.frame.proofs.FieldLaws.{field-back}
 use Rattle.unit.specs.State.{subsequences, freshState}
 use Rattle.unit.specs.declared.State.{State}
 use Rattle.unit.specs.Kinds.{kindListed, kindRefused, kindDone}
-use Rattle.listing.specs.Lines.{linesOf, joined, kept, linesWithin, same}
+use Rattle.listing.specs.Lines.{linesOf, joined, kept, linesWithin, sameList}
 use Rattle.unit.specs.Listed.{mostListed, listedHead, words, Step, refused, accepted}
 use Rattle.listing.specs.Record.{Setup, Accepted, FirstLine, Lawful}
 use Rattle.listing.specs.Listing.{Front, alone, unpaired, ready, frame05, line05, frame06, line06, lastLine, onStep, records, firstOf, restOf, listed, listing, LawfulFront, onAccepted, stateBehind, Each, none, one, ListingLine, Numbered, Finished}
@@ -58,7 +58,7 @@ each f (one {l} h g) = one (f l h) (each f g)
 entry-last : (E : Setup) (s : State) (ls : List (List ℕ)) → Entry (lastLine E s ls)
 unfolding lastLine
 entry-last E s [] =
-    by-test (same (s .index) (E .counts)) (λ t. rw t (done-line (E .count))) (λ t. rw t (refused-line (E .count) missing (lit< tt, lit< tt)))
+    by-test (sameList (s .index) (E .counts)) (λ t. rw t (done-line (E .count))) (λ t. rw t (refused-line (E .count) missing (lit< tt, lit< tt)))
 entry-last E s (l ∷ ls) = refused-line (E .count) missing (lit< tt, lit< tt)
 
 entries-from : {E : Setup} → Lawful E → (k : ℕ) (s : State) (ls : List (List ℕ)) → length (s .index) ≡ subsequences → Each Entry (records E k s ls)
@@ -187,7 +187,7 @@ listing-numbered (ready E) w i h = rw zero-add at (numbered-from w (E .count) fr
 closes-last : (E : Setup) (s : State) (ls : List (List ℕ)) → Closes (lastLine E s ls)
 unfolding lastLine
 closes-last E s [] =
-    by-test (same (s .index) (E .counts)) (λ t. rw t (inr (closing-06 (E .count)))) (λ t. rw t (inl (closing-05 (E .count) missing)))
+    by-test (sameList (s .index) (E .counts)) (λ t. rw t (inr (closing-06 (E .count)))) (λ t. rw t (inl (closing-05 (E .count) missing)))
 closes-last E s (l ∷ ls) = inl (closing-05 (E .count) missing)
 
 closes-from : (E : Setup) (k : ℕ) (s : State) (ls : List (List ℕ)) (z : List ℕ) → Closes (lastFrom z (records E k s ls))
@@ -214,7 +214,7 @@ not-06 q n r e = absurd (omega (arith, closing-05 q n .kind, closing-06 r .kind,
 finished-last : (E : Setup) (s : State) (ls : List (List ℕ)) (q : ℕ) → s .number ≡ E .count → lastLine E s ls ≡ line06 q → Finished E s
 unfolding lastLine
 finished-last E s [] q n e =
-    by-test (same (s .index) (E .counts)) (λ t. record { number = n; symbols = same-true _ _ t }) (λ t. not-06 (E .count) missing q (rw t at e))
+    by-test (sameList (s .index) (E .counts)) (λ t. record { number = n; symbols = same-true _ _ t }) (λ t. not-06 (E .count) missing q (rw t at e))
 finished-last E s (l ∷ ls) q n e = not-06 (E .count) missing q e
 
 finished-from : {E : Setup} → Lawful E → (k : ℕ) (s : State) (ls : List (List ℕ)) (z : List ℕ) (q : ℕ) → length (s .index) ≡ subsequences → s .number + k ≡ E .count

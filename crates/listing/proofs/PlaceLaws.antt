@@ -16,7 +16,7 @@ use Rattle.frame.proofs.HexLaws.{by-test}
 use Rattle.unit.specs.State.{subsequences}
 use Rattle.unit.specs.declared.State.{State}
 use Rattle.unit.specs.Kinds.{kindUnit, kindRefused, kindDone}
-use Rattle.listing.specs.Lines.{joined, same}
+use Rattle.listing.specs.Lines.{joined, sameList}
 use Rattle.unit.specs.Listed.{mostListed, numberPlace, indexPlace}
 use Rattle.listing.specs.Record.{Setup, Lawful}
 use Rattle.listing.specs.Listing.{Front, alone, unpaired, ready, line05, firstOf, restOf, listing, LawfulFront}
@@ -24,7 +24,7 @@ use Rattle.listing.specs.Resuming.{Last, whole, bytes05, bytes06, stateA
 use Rattle.listing.proofs.LinesLaws.{same-refl, same-true, same-false, same-not, same-near}
 use Rattle.listing.specs.Turn.{run}
 use Rattle.listing.proofs.TurnLaws.{run-records}
-use Rattle.listing.proofs.LastLaws.{length-wordsAt, Sorted, listed, closed05, closed06, other, sorted, said-listed, said-closes, last-near}
+use Rattle.listing.proofs.LastLaws.{length-wordsAt, Sorted, listed, closed05, closed06, other, sorted, listed-believed, said-closes, last-near}
 
 -- there is a symbol count for each subsequence
 counts-long : (F : Front) → LawfulFront F → length (countsOf F) ≡ subsequences
@@ -76,8 +76,8 @@ pub refused-only : (F : Front) → LawfulFront F → (a z : List ℕ) (n : ℕ) 
     → ((n ≡ otherFirst) × (a ≡ firstOf F → ⊥)) ⊎ ((n ≡ otherLast) × (a ≡ firstOf F) × (Continues F z → ⊥))
 unfolding added
 refused-only F w a z n e =
-    by-test (same a (firstOf F))
-    (λ t. by-test (same z (firstOf F))
+    by-test (sameList a (firstOf F))
+    (λ t. by-test (sameList z (firstOf F))
     (λ u. never (sym (behind-none F) ∙ sym (ap₂ (same-true _ _ t) (same-true _ _ u)) ∙ e))
     (λ u. inr (right (same-true _ _ t) (same-not _ _ u))))
     (λ t. inl (number (sym (first-refused F a z (same-not _ _ t)) ∙ e), same-not _ _ t))
@@ -119,7 +119,7 @@ closing : (F : Front) → LawfulFront F → (z : List ℕ) → lastOf (countOf F
     → supply F (edges (firstOf F) z) ≡ add []
 unfolding added
 closing F w z e k =
-    by-test (same z (firstOf F))
+    by-test (sameList z (firstOf F))
     (λ t. let q : z ≡ firstOf F = same-true _ _ t in
     ap (λ (x : List ℕ). supply F (edges (firstOf F) x)) q ∙ behind-none F ∙ ap add (only-line F w z k q))
     (λ t. behind-first F z (same-not _ _ t) ∙ rw e)
@@ -137,7 +137,7 @@ pub believed : (E : Setup) → Lawful E → (z : List ℕ) → ContinuableLine (
 unfolding firstOf countOf countsOf added suppliedFrom stateAt
 believed E w z v =
     behind-first (ready E) z (λ q. omega (arith, v .kind, ap (λ (x : List ℕ). getD (unhex x) 0 0) q, w .unit .kind))
-    ∙ rw (said-listed (E .count) (E .counts) z (w .counts-all) v)
+    ∙ rw (listed-believed (E .count) (E .counts) z (w .counts-all) v)
 
 -- where there are as many record lines, a program goes on behind them
 pub goes-on : (E : Setup) → Lawful E → (z : List ℕ) → ContinuableLine (E .count) (E .counts) z → (ls : List (List ℕ)) → skip (bigAt 2 (unhex z) numberPlace + 1) (E .lines) ≡ some ls

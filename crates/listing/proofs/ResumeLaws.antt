@@ -18,7 +18,7 @@ use Rattle.frame.proofs.LineLaws.{lineOfBytes, unhex-line, line-is-frame}
 use Rattle.unit.specs.State.{subsequences, freshState}
 use Rattle.unit.specs.declared.State.{State}
 use Rattle.unit.specs.Kinds.{kindUnit, kindListed}
-use Rattle.listing.specs.Lines.{linesOf, joined, ends, kept, WholeLine, same}
+use Rattle.listing.specs.Lines.{linesOf, joined, ends, kept, WholeLine, sameList}
 use Rattle.unit.specs.Listed.{listedHead, Step, refused, accepted, numberPlace}
 use Rattle.listing.specs.Record.{Setup, Accepted, FirstLine, Lawful}
 use Rattle.listing.specs.Listing.{Front, alone, unpaired, ready, frame05, line05, frame06, line06, lastLine, onStep, records, firstOf, restOf, listing, LawfulFront}
@@ -31,7 +31,7 @@ use Rattle.listing.proofs.LastLaws.{last-bytes, bytes-05, bytes-06, las
 -- ---- the first line
 
 -- a line of another kind is not the unit line
-pub other-first : {first : List ℕ} → FirstLine first → (bs : List ℕ) → Bytes bs → (getD bs 0 0 ≡ kindUnit → ⊥) → same (lineOfBytes bs) first ≡ false
+pub other-first : {first : List ℕ} → FirstLine first → (bs : List ℕ) → Bytes bs → (getD bs 0 0 ≡ kindUnit → ⊥) → sameList (lineOfBytes bs) first ≡ false
 other-first {first} w bs b h = same-false (lineOfBytes bs) first (λ e. h (ap (λ (l : List ℕ). getD l 0 0) (sym (unhex-line bs b) ∙ ap unhex e) ∙ w .kind))
 
 -- the line of any bytes of kind 01 that an input line can hold
@@ -53,11 +53,11 @@ pub whole-06 : (q : ℕ) → WholeLine (line06 q)
 unfolding line06
 whole-06 q = whole-bytes _
 
-other-05 : {first : List ℕ} → FirstLine first → (q n : ℕ) → same (line05 q n) first ≡ false
+other-05 : {first : List ℕ} → FirstLine first → (q n : ℕ) → sameList (line05 q n) first ≡ false
 unfolding line05 be
 other-05 w q n = other-first w (frame05 q n) (bytes-05 q n) (λ e. omega arith)
 
-other-06 : {first : List ℕ} → FirstLine first → (q : ℕ) → same (line06 q) first ≡ false
+other-06 : {first : List ℕ} → FirstLine first → (q : ℕ) → sameList (line06 q) first ≡ false
 unfolding line06 be
 other-06 w q = other-first w (frame06 q) (bytes-06 q) (λ e. omega arith)
 
@@ -80,7 +80,7 @@ skip-more (suc j) (m ∷ ms) {l} {ls} e h = by (ends m) e (λ e. skip-more j ms 
 
 -- what is supplied behind a last kept line
 abbrev after : Front → List ℕ → Supplied
-after F z = added F (cond (same z (firstOf F)) second (onLast (lastOf (countOf F) (countsOf F) z)))
+after F z = added F (cond (sameList z (firstOf F)) second (onLast (lastOf (countOf F) (countsOf F) z)))
 
 data Good (F : Front) : List (List ℕ) → Type 0 where
   end : Good F []
@@ -121,7 +121,7 @@ module _ {E : Setup} (w : Lawful E) where
   good-last : (s : State) (ls : List (List ℕ)) → Good (ready E) (lastLine E s ls ∷ [])
   unfolding lastLine firstOf
   good-last s [] =
-      by-test (same (s .index) (E .counts))
+      by-test (sameList (s .index) (E .counts))
       (λ t. rw t (good-06 (E .first) refl (w .unit) (E .count)))
       (λ t. rw t (good-05 (E .first) refl (w .unit) (E .count) missing))
   good-last s (l ∷ ls) = good-05 (E .first) refl (w .unit) (E .count) missing
@@ -141,7 +141,7 @@ module _ {E : Setup} (w : Lawful E) where
           let ended : ends l ≡ true = whole-ends (whole-frame lineDigits l (a .size) (a .well-formed)) in
           let at : skip (u .number) (E .lines) ≡ some ls = rw (a .number, add-one) (skip-more (s .number) (E .lines) h ended) in
           let left : E .count - u .number ≡ k = omega (arith, a .number) in
-          let other : same (lineOfBytes frame) (E .first) ≡ false = other-first (w .unit) frame (a .bytes) (λ q. omega (arith, accepted-kind a)) in
+          let other : sameList (lineOfBytes frame) (E .first) ≡ false = other-first (w .unit) frame (a .bytes) (λ q. omega (arith, accepted-kind a)) in
           next {l = lineOfBytes frame} {ls = records E k u ls} (whole-bytes frame) (rw (other, accepted-says w a, at, left)) (go u (a .indexes) (omega (arith, a .number)) at)
 
 -- the lines behind the first
@@ -185,7 +185,7 @@ made-whole F w n k = by (kept-cut (first-whole F w) (joined (restOf F)) n k)
     by : {q : List ℕ} → Cut (firstOf F) (joined (restOf F)) k q → MadeWhole F q
     by (inside q) = rw q (record { bytes = listing F; answer = refl; together = refl })
     by (beyond j q) =
-        let own : same (firstOf F) (firstOf F) ≡ true = same-refl (firstOf F) in
+        let own : sameList (firstOf F) (firstOf F) ≡ true = same-refl (firstOf F) in
         let m = made (goods F w) (firstOf F) (simp own) j k in
         rw q
         (record { bytes = m .bytes; answer = rw (lines-line (first-whole F w) _, own) (m .answer); together = rw append-assoc (ap (λ (r : List ℕ). firstOf F ++ r) (m .together)) })

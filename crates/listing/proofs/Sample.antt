@@ -18,7 +18,7 @@ use Rattle.frame.proofs.LineLaws.{lineOfBytes}
 use Rattle.unit.specs.State.{subsequences, within}
 use Rattle.unit.specs.declared.State.{State}
 use Rattle.unit.specs.Kinds.{kindUnit}
-use Rattle.listing.specs.Lines.{pushByte, linesOf, joined, ends, keptWith, kept, same}
+use Rattle.listing.specs.Lines.{pushByte, linesOf, joined, ends, keptWith, kept, sameList}
 use Rattle.unit.specs.Listed.{Step, refused, accepted, words, listedHead}
 use Rattle.listing.specs.Record.{Setup, Accepted, FirstLine, Lawful}
 use Rattle.listing.proofs.ResumeLaws.{first-line}
@@ -128,5 +128,5 @@ answers (f ∷ fs) = supplied sample f ∷ answers fs
 -- with a false line of the second record: it is believed, and its record line has no 0A, so the lines run out
 samples : answers (torn 30 3 (listing sample) ∷ torn 64 3 (listing sample) ∷ (lineOfBytes (kindUnit ∷ 4 ∷ []) ++ toyLine 0) ∷ (toyUnit ++ toyLine 2) ∷ (toyUnit ++ toyLine 1) ∷ [])
     ≡ add (joined (toyLine 0 ∷ line05 1 malformed ∷ [])) ∷ add (joined (line05 1 malformed ∷ [])) ∷ refuse otherFirst ∷ refuse otherLast ∷ add (joined (line05 2 missing ∷ [])) ∷ []
-unfolding listing joined firstOf restOf records lastLine linesOf pushByte line05 lineWithin allDigits isDigit kept keptWith listedHead words be hexOf unhex glyph nib bigAt supply place added suppliedFrom skip edgesOf lastFrom countOf countsOf lastOf frameLast listedLast stateAt wordsAt within same ends
+unfolding listing joined firstOf restOf records lastLine linesOf pushByte line05 lineWithin allDigits isDigit kept keptWith listedHead words be hexOf unhex glyph nib bigAt supply place added suppliedFrom skip edgesOf lastFrom countOf countsOf lastOf frameLast listedLast stateAt wordsAt within sameList ends
 samples = refl

@@ -50,8 +50,8 @@ pub data WholeLine : List ℕ → Type 0 where
   more : {x : ℕ} {l : List ℕ} → eqb x 0 ≡ false → eqb x lineEnd ≡ false → WholeLine l → WholeLine (x ∷ l)
 
 -- two lines, or two lists of numbers, are the same
-unfoldable pub same : List ℕ → List ℕ → Bool
-same [] [] = true
-same [] (y ∷ ys) = false
-same (x ∷ xs) [] = false
-same (x ∷ xs) (y ∷ ys) = cond (eqb x y) (same xs ys) false
+unfoldable pub sameList : List ℕ → List ℕ → Bool
+sameList [] [] = true
+sameList [] (y ∷ ys) = false
+sameList (x ∷ xs) [] = false
+sameList (x ∷ xs) (y ∷ ys) = cond (eqb x y) (sameList xs ys) false

@@ -17,7 +17,7 @@ use Rattle.frame.specs.declared.line.Line.the-variants.{Frame}
 use Rattle.unit.specs.State.{subsequences, within}
 use Rattle.unit.specs.declared.State.{State}
 use Rattle.unit.specs.Kinds.{kindListed, kindRefused, kindDone}
-use Rattle.listing.specs.Lines.{linesOf, joined, ends, kept, same}
+use Rattle.listing.specs.Lines.{linesOf, joined, ends, kept, sameList}
 use Rattle.unit.specs.Listed.{mostListed, leastListed, numberPlace, indexPlace}
 use Rattle.listing.specs.Record.{Setup}
 use Rattle.listing.specs.Listing.{Front, alone, unpaired, ready, line05, records, firstOf, restOf, listing}
@@ -109,7 +109,7 @@ onLast bad = no otherLast
 -- "Otherwise 15 is checked first. The last kept line must be .. equal to the first line, or ..; else 16"
 abbrev pub placeBy : List ℕ → ℕ → List ℕ → Edges → Place
 placeBy first count counts nothing = afresh
-placeBy first count counts (edges a z) = cond (same a first) (cond (same z first) second (onLast (lastOf count counts z))) (no otherFirst)
+placeBy first count counts (edges a z) = cond (sameList a first) (cond (sameList z first) second (onLast (lastOf count counts z))) (no otherFirst)
 
 -- "also for an 04 line where a reference, unit or pair line is refused or .. missing": there no record number is below the count
 unfoldable pub countOf : Front → ℕ

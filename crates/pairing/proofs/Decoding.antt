@@ -39,14 +39,14 @@ Ends value end reserved = Unit {0}
 -- the state
 
 -- index j of b is that of a; or it is one more, and that of a was below its count
-abbrev pub Step : List ℕ → State → State → ℕ → Type 0
-Step counts a b j = (taken b j ≡ taken a j) ⊎ ((taken b j ≡ taken a j + 1) × (taken a j < getD counts j 0))
+abbrev pub IndexStep : List ℕ → State → State → ℕ → Type 0
+IndexStep counts a b j = (taken b j ≡ taken a j) ⊎ ((taken b j ≡ taken a j + 1) × (taken a j < getD counts j 0))
 
 -- b follows a: the number and how many indexes there are stay, and each index makes a step
 pub record Follows (counts : List ℕ) (a b : State) : Type 0 where
   pub number : b .number ≡ a .number
   pub long : length (b .index) ≡ length (a .index)
-  pub each : (j : ℕ) → Step counts a b j
+  pub each : (j : ℕ) → IndexStep counts a b j
 
 pub stays : (counts : List ℕ) (a : State) → Follows counts a a
 stays counts a = record { number = refl; long = refl; each = λ j. inl refl }
@@ -73,11 +73,11 @@ module _ (symbols counts : List ℕ) (a : State) where
         long = raised-long b s ∙ so .long;
         each =
             λ j.
-            by-test (λ (u : Bool). Step counts a (raised b s) j) (eqb j s) true true
+            by-test (λ (u : Bool). IndexStep counts a (raised b s) j) (eqb j s) true true
             (λ is.
             let at : j ≡ s = eqb-true j s is in
             rw at
-            (by-test (λ (u : Bool). Step counts a (raised b s) s) (ltb s (length (b .index))) true true
+            (by-test (λ (u : Bool). IndexStep counts a (raised b s) s) (ltb s (length (b .index))) true true
             (λ l. inr (raised-same b s (ltb-true _ _ l) ∙ ap (λ (n : ℕ). n + 1) fresh, rw fresh at (there .left)))
             (λ l. inl (rw (set-out (b .index) s _ (ltb-false _ _ l)) fresh))))
             (λ no. rw (raised-other b s j (eqb-false j s no)) (so .each j));

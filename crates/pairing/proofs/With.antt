@@ -29,13 +29,13 @@ module _ (x : Paired) (symbols counts : List ℕ) (back st : State) where
 
   -- a symbol that the code took as r
   module _ (r : Taken) (s v : ℕ) (goOn : ℕ → Steps) (e : r ≡ takeOf symbols counts st s) where
-    pub given : r .found ≡ Symbol v → x ≡ decode symbols counts back (r .state) (goOn v) → x ≡ decode symbols counts back st (takes s goOn)
+    pub decode-given : r .found ≡ Symbol v → x ≡ decode symbols counts back (r .state) (goOn v) → x ≡ decode symbols counts back st (takes s goOn)
     unfolding decode
-    given h k = rw (← e, h) k
+    decode-given h k = rw (← e, h) k
 
-    pub missing : r .found ≡ UsedUp → x ≡ refusedLink usedUp back → x ≡ decode symbols counts back st (takes s goOn)
+    pub decode-missing : r .found ≡ UsedUp → x ≡ refusedLink usedUp back → x ≡ decode symbols counts back st (takes s goOn)
     unfolding decode
-    missing h k = rw (← e, h) k
+    decode-missing h k = rw (← e, h) k
 
   -- a value of at most 16 bits, or more
   module _ (v : ℕ) (p : Steps) where
@@ -49,14 +49,14 @@ module _ (x : Paired) (symbols counts : List ℕ) (back st : State) where
 
   -- a test of two numbers
   module _ (a b : ℕ) (p q : Steps) where
-    pub when : a < b → x ≡ decode symbols counts back st p → x ≡ decode symbols counts back st (cond (ltb a b) p q)
-    when h k = rw (lt-ltb a b h) k
+    pub decode-when : a < b → x ≡ decode symbols counts back st p → x ≡ decode symbols counts back st (cond (ltb a b) p q)
+    decode-when h k = rw (lt-ltb a b h) k
 
-    pub unless : b ≤ a → x ≡ decode symbols counts back st q → x ≡ decode symbols counts back st (cond (ltb a b) p q)
-    unless h k = rw (le-ltb a b h) k
+    pub decode-unless : b ≤ a → x ≡ decode symbols counts back st q → x ≡ decode symbols counts back st (cond (ltb a b) p q)
+    decode-unless h k = rw (le-ltb a b h) k
 
-    pub same : a ≡ b → x ≡ decode symbols counts back st p → x ≡ decode symbols counts back st (cond (eqb a b) p q)
-    same h k = rw (eq-eqb a b h) k
+    pub decode-same : a ≡ b → x ≡ decode symbols counts back st p → x ≡ decode symbols counts back st (cond (eqb a b) p q)
+    decode-same h k = rw (eq-eqb a b h) k
 
-    pub differ : (a ≡ b → ⊥) → x ≡ decode symbols counts back st q → x ≡ decode symbols counts back st (cond (eqb a b) p q)
-    differ h k = rw (ne-eqb a b h) k
+    pub decode-differ : (a ≡ b → ⊥) → x ≡ decode symbols counts back st q → x ≡ decode symbols counts back st (cond (eqb a b) p q)
+    decode-differ h k = rw (ne-eqb a b h) k

@@ -31,8 +31,8 @@ module _ (x : Planned) (answer spec : SegmentRead) (more : Segment → ℕ → P
 -- ---- a record's reading, and the state after it
 
 module _ (x : Reading) (p : Planned) (next back : State) where
-  pub kept : (n : ℕ) → p ≡ Refused n → x ≡ refusedReading n back → x ≡ settled p next back
-  kept n h k = rw h k
+  pub settled-refused : (n : ℕ) → p ≡ Refused n → x ≡ refusedReading n back → x ≡ settled p next back
+  settled-refused n h k = rw h k
 
   pub moved : (q : Plan) → p ≡ Whole q → x ≡ settled (Whole q) next back → x ≡ settled p next back
   moved q h k = rw h k

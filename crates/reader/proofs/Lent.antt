@@ -27,8 +27,8 @@ module _ {M : Type 1} (𝓤 : URA M) (H : Heap 𝓤) (A : Atoms 𝓤) (W : Given
   abbrev way : ℕ → SProp 𝓤
   way ν = wand 𝓤 (A .lft (ν ∷ []) (PosShare·left q)) (A .lft (ν ∷ []) fullShare)
 
-  abbrev pub Kept : ℕ → GName → SProp 𝓤
-  Kept ν δ = sep 𝓤 (A .lent (ν ∷ κ) (Body (mem R) b o δ)) (way ν)
+  abbrev pub LentKept : ℕ → GName → SProp 𝓤
+  LentKept ν δ = sep 𝓤 (A .lent (ν ∷ κ) (Body (mem R) b o δ)) (way ν)
 
   -- the tokens that the call is passed
   abbrev pub tokens : ℕ → SProp 𝓤
@@ -37,7 +37,7 @@ module _ {M : Type 1} (𝓤 : URA M) (H : Heap 𝓤) (A : Atoms 𝓤) (W : Given
   abbrev pub loan : Lifetime → ℕ → GName → R .Denot → Fml
   loan ℓ ν δ x = MutRef ℓ (ν ∷ κ) R .own (record { ptr = (b, o); name = δ; now = x }) (vptr b o ∷ [])
 
-  pub lends : (ℓ : Lifetime) (x : R .Denot) → ent 𝓤 (sep 𝓤 (sem 𝓤 H A (mem R .lies x b o)) (A .lft κ q)) (H .⇛ (ex 𝓤 (λ (ν : ℕ). ex 𝓤 (λ (δ : GName). sep 𝓤 (sep 𝓤 (tokens ν) (sem 𝓤 H A (loan ℓ ν δ x))) (Kept ν δ)))))
+  pub lends : (ℓ : Lifetime) (x : R .Denot) → ent 𝓤 (sep 𝓤 (sem 𝓤 H A (mem R .lies x b o)) (A .lft κ q)) (H .⇛ (ex 𝓤 (λ (ν : ℕ). ex 𝓤 (λ (δ : GName). sep 𝓤 (sep 𝓤 (tokens ν) (sem 𝓤 H A (loan ℓ ν δ x))) (LentKept ν δ)))))
   lends ℓ x =
       qed W (‵ (mem R .lies x b o) ∷ ‵ (flft κ q) ∷ []) ∵ updating ! $ lft-new ! tt (λ ν.
       use1 W (‵ (flft (ν ∷ []) (PosShare·left q)) ⊛ raw (way ν)) (W .lfts .lft-carve ν (PosShare·left q)) $ split ! $
@@ -46,10 +46,10 @@ module _ {M : Type 1} (𝓤 : URA M) (H : Heap 𝓤) (A : Atoms 𝓤) (W : Given
       -- [the token of ν ∷ κ; that of κ; the way; x]
       move ! (3 ∷ []) $ use1 W (later (some (λ (δ : GName). ‵ (loan ℓ ν δ x) ⊛ ‵ (flent (ν ∷ κ) (Body (mem R) b o δ))))) (lends-ref 𝓤 H A W R ℓ (ν ∷ κ) x b o) $ await ! tt $ pick ! (λ δ. split ! $
       -- [the loan; the lender's part; the token of ν ∷ κ; that of κ; the way]
-      at-once ! $ show ! (λ (n : ℕ). ex 𝓤 (λ (γ : GName). sep 𝓤 (sep 𝓤 (tokens n) (sem 𝓤 H A (loan ℓ n γ x))) (Kept n γ))) ν $ show ! (λ (γ : GName). sep 𝓤 (sep 𝓤 (tokens ν) (sem 𝓤 H A (loan ℓ ν γ x))) (Kept ν γ)) δ $
+      at-once ! $ show ! (λ (n : ℕ). ex 𝓤 (λ (γ : GName). sep 𝓤 (sep 𝓤 (tokens n) (sem 𝓤 H A (loan ℓ n γ x))) (LentKept n γ))) ν $ show ! (λ (γ : GName). sep 𝓤 (sep 𝓤 (tokens ν) (sem 𝓤 H A (loan ℓ ν γ x))) (LentKept ν γ)) δ $
       nothing ! $ move ! (4 ∷ 0 ∷ []) $ join ! $ move ! (3 ∷ 0 ∷ []) $ join ! $ join ! $ frame ! $ done !))
 
-  pub back : (ν : ℕ) (δ : GName) (y : R .Denot) → ent 𝓤 (sep 𝓤 (tokens ν) (sep 𝓤 (Kept ν δ) (A .res δ (R .coded .code y)))) (H .⇛ (sep 𝓤 (sem 𝓤 H A (mem R .lies y b o)) (A .lft κ q)))
+  pub back : (ν : ℕ) (δ : GName) (y : R .Denot) → ent 𝓤 (sep 𝓤 (tokens ν) (sep 𝓤 (LentKept ν δ) (A .res δ (R .coded .code y)))) (H .⇛ (sep 𝓤 (sem 𝓤 H A (mem R .lies y b o)) (A .lft κ q)))
   back ν δ y =
       qed W ((‵ (flft (ν ∷ κ) (PosShare·left q)) ⊛ ‵ (flft κ (PosShare·right q)) ⊛ ‵ ftrue) ∷ (‵ (flent (ν ∷ κ) (Body (mem R) b o δ)) ⊛ raw (way ν)) ∷ ‵ (fres δ (R .coded .code y)) ∷ []) ∵ updating ! $
       split ! $ use1 W (‵ (flft (ν ∷ []) (PosShare·left q)) ⊛ ‵ (flft κ (PosShare·left q))) (W .lfts .lft-unmeet (ν ∷ []) κ (PosShare·left q)) $ split ! $

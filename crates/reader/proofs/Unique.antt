@@ -18,8 +18,8 @@ pub front-once : (line : RefT (List ℕ)) {x y : Reader} → x ≡ atFront line 
 front-once line p q = once p q
 
 -- the field, and the reader that is lent
-pub field-once : (r : Reader) (w : Width) {x y : Field} {after after′ : Reader} → x ≡ fieldAt (widthBytes w) (unhex (now (r .0))) (r .1) → y ≡ fieldAt (widthBytes w) (unhex (now (r .0))) (r .1) → after ≡ further r x → after′ ≡ further r y → (x ≡ y) × (after ≡ after′)
-field-once r w p q f g = (once p q, once (f ∙ ap (further r) (once p q)) g)
+pub reader-field-once : (r : Reader) (w : Width) {x y : Field} {after after′ : Reader} → x ≡ fieldAt (widthBytes w) (unhex (now (r .0))) (r .1) → y ≡ fieldAt (widthBytes w) (unhex (now (r .0))) (r .1) → after ≡ further r x → after′ ≡ further r y → (x ≡ y) × (after ≡ after′)
+reader-field-once r w p q f g = (once p q, once (f ∙ ap (further r) (once p q)) g)
 
 -- `head::read`
 pub head-once : (line : List ℕ) {x y : Head} → x ≡ recordHead (unhex line) → y ≡ recordHead (unhex line) → x ≡ y

@@ -12,7 +12,7 @@ use Rattle.frame.specs.Line.{lineEnd}
 use Rattle.frame.proofs.HexLaws.{by-test}
 use Rattle.writing.specs.Lay.{Laid}
 use Rattle.writing.specs.Whole.{lineInto}
-use Rattle.writing.proofs.WholeLaws.{no-room as line-no-room, room as line-room}
+use Rattle.writing.proofs.WholeLaws.{no-room, room}
 use Rattle.unit.specs.Listed.{accepted}
 use Rattle.unit.specs.declared.State.{State}
 use Rattle.record.specs.Record.{refusedCall, listedBy, recorded, output, withRoom}
@@ -22,15 +22,15 @@ pub output-is-line : (s bs : List ℕ) (next : State) → output s (withRoom (le
 unfolding lineInto
 output-is-line s bs next = by-test (ltb (2 * length bs) (length s)) (λ t. simp t) (λ t. simp t)
 
-pub no-room : (state next : State) (s bs : List ℕ) → length s ≤ 2 * length bs
+pub record-no-room : (state next : State) (s bs : List ℕ) → length s ≤ 2 * length bs
     → (refusedCall noRoom state ≡ recorded state (withRoom (length s) (accepted bs next))) × (s ≡ output s (withRoom (length s) (accepted bs next)))
-no-room state next s bs h =
+record-no-room state next s bs h =
     let t = le-ltb (2 * length bs) (length s) h in
-    (simp t, line-no-room s bs h .1 ∙ sym (output-is-line s bs next))
+    (simp t, no-room s bs h .1 ∙ sym (output-is-line s bs next))
 
-pub room : (state next : State) (s bs : List ℕ) {e : List ℕ} {n : ℕ} → 2 * length bs < length s → Laid s e 0 n bs
+pub record-room : (state next : State) (s bs : List ℕ) {e : List ℕ} {n : ℕ} → 2 * length bs < length s → Laid s e 0 n bs
     → (listedBy (n + 1) next ≡ recorded state (withRoom (length s) (accepted bs next))) × (set e n lineEnd ≡ output s (withRoom (length s) (accepted bs next)))
-room state next s bs {e} {n} h f =
+record-room state next s bs {e} {n} h f =
     let t = lt-ltb (2 * length bs) (length s) h in
     let q : n ≡ 2 * length bs = f .to ∙ zero-add (2 * length bs) in
-    (simp (t, q), line-room s bs h f .1 ∙ sym (output-is-line s bs next))
+    (simp (t, q), room s bs h f .1 ∙ sym (output-is-line s bs next))

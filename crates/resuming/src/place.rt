@@ -3,7 +3,7 @@ use crate::last::LastSays;
 use crate::last::last_line;
 use unit::State;
 ghost use mathlib.Core.Path.{_≡_};
-ghost use Rattle.listing.specs.Lines.{same as sameOf};
+ghost use Rattle.listing.specs.Lines.{sameList as sameOf};
 ghost use Rattle.listing.specs.Resuming.{lastOf, edgesFrom, onLast, placeBy};
 ghost use Rattle.resuming.specs.Last.{barePlaced, placedOf};
 

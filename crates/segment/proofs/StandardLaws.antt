@@ -24,7 +24,7 @@ use Rattle.ecigar.proofs.OperationLaws.{counts-positive, operations-read, opera
 use Rattle.bases.specs.Reference.{isLent, lentSymbol, baseAt, baseRefusal}
 use Rattle.bases.specs.Bases.{beginning}
 use Rattle.bases.specs.Alignment.{Acceptable}
-use Rattle.bases.proofs.AlignmentLaws.{under-place, under-fine, edit-inside}
+use Rattle.bases.proofs.AlignmentLaws.{under-place, under-fine, edit-symbol}
 use Rattle.bases.proofs.ReadLaws.{read-length, base-under-match, base-of-edit, base-from, base-of-left, base-of-right}
 use Rattle.block.specs.Aligned.{alignedAt}
 use Rattle.block.specs.Unaligned.{unalignedAt}
@@ -200,7 +200,7 @@ module _ (u : Unit) (reference frame : List ℕ) (q : Placed) (a : SegmentAccept
       let k : left + (i - left) ≡ i = omega arith in
       ⊎-elim
       (λ w. rw (← k) (rw (listed-match (i - left) (w .0) (w .1)) (base-letter (u .alphabet) reference (u .first) (w .0) (under-fine (u .alphabet) reference (u .first) (mappedIn q) (beginning (q .position)) (editsIn u frame q) (i - left) (w .0) (a .matched) (w .1)))))
-      (λ w. rw (← k) (rw (listed-edit (i - left) (w .0) (w .1)) (_, (edit-inside (mappedIn q) (sizeOf (u .alphabet)) 0 (editsIn u frame q) (i - left) (w .0) (a .block .edits) (w .1), refl))))
+      (λ w. rw (← k) (rw (listed-edit (i - left) (w .0) (w .1)) (_, (edit-symbol (mappedIn q) (sizeOf (u .alphabet)) 0 (editsIn u frame q) (i - left) (w .0) (a .block .edits) (w .1), refl))))
       (listed-from (i - left) (omega arith)))
       (λ t.
       let m = ltb-false i (left + mappedIn q) t in

@@ -29,8 +29,8 @@ pub ready-text : {u : Unit} {frame : List ℕ} {p : Placed} → ReadyAligned u f
 ready-text {u} {frame} {p} r = text-is-table92 u frame p (r .class) (r .sound)
 
 -- behind what is laid there is room for the next piece of the whole
-pub room-behind : {a b : List ℕ} {at p whole : ℕ} {xs : List ℕ} (n : ℕ) → Laid a b at p xs → at + 2 * whole ≤ length a → length xs + n ≤ whole → p + 2 * n ≤ length b
-room-behind n f h k = omega (arith, f .to, length-laid f)
+pub room-for-next : {a b : List ℕ} {at p whole : ℕ} {xs : List ℕ} (n : ℕ) → Laid a b at p xs → at + 2 * whole ≤ length a → length xs + n ≤ whole → p + 2 * n ≤ length b
+room-for-next n f h k = omega (arith, f .to, length-laid f)
 
 -- position, rcomp and read length, byte by byte
 pub head-bytes : (position rcomp bases : ℕ)

@@ -4,13 +4,13 @@ use native.Mathlib.Omega.{arith}
 use Rattle.frame.specs.Hex.{unhex}
 use Rattle.edits.specs.Edits.{editsAt}
 use Rattle.bases.specs.Bases.{refusalFrom, referenceRefusal}
-use Rattle.bases.proofs.BasesLaws.{Walk, walk-start, walk-on, walk-near, walk-room, refusal-start, refusal-on, refusal-out, refusal-end}
+use Rattle.bases.proofs.BasesLaws.{BasesWalk, walk-start, walk-on, walk-near, walk-room, refusal-start, refusal-on, refusal-out, refusal-end}
 use borrow.Author.Needs.{needs}
 use Rattle.bases.proofs.check_reference.Statement.{statement}
 use Rattle.bases.proofs.check_reference.Tie as tie
 
 abbrev Inv-loop : tie.InvT-loop
-Inv-loop reference first letters position line class place count mapped step bytes at₀ p₀ left₀ at p left = Walk bytes position count p left at × (refusalFrom letters reference first mapped p (editsAt class letters (unhex line) left at) ≡ referenceRefusal class letters (unhex line) reference first position mapped count place)
+Inv-loop reference first letters position line class place count mapped step bytes at₀ p₀ left₀ at p left = BasesWalk bytes position count p left at × (refusalFrom letters reference first mapped p (editsAt class letters (unhex line) left at) ≡ referenceRefusal class letters (unhex line) reference first position mapped count place)
 
 abbrev μ-loop : tie.MeasureT-loop
 μ-loop reference first letters position line class place count mapped step bytes at₀ p₀ left₀ at p left = left

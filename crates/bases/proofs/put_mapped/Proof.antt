@@ -6,13 +6,13 @@ use Rattle.writing.proofs.LayLaws.{Rest, rest-put, rest-room-end, rest-end, res
 use Rattle.edits.specs.Edits.{editsAt}
 use Rattle.bases.specs.Bases.{basesFrom, mappedBases}
 use Rattle.bases.proofs.ReferenceLaws.{length-matched}
-use Rattle.bases.proofs.BasesLaws.{Walk, walk-start, walk-on, walk-near, walk-room, bases-start, bases-on, bases-room, bases-end}
+use Rattle.bases.proofs.BasesLaws.{BasesWalk, walk-start, walk-on, walk-near, walk-room, bases-start, bases-on, bases-room, bases-end}
 use borrow.Author.Needs.{needs}
 use Rattle.bases.proofs.put_mapped.Statement.{statement}
 use Rattle.bases.proofs.put_mapped.Tie as tie
 
 abbrev Inv-loop : tie.InvT-loop
-Inv-loop out₀ at reference first letters position line class place count mapped table step bytes here₀ p₀ next₀ left₀ out here p next left = Walk bytes position count p left here × Rest out next (basesFrom letters reference first mapped p (editsAt class letters (unhex line) left here)) out₀ at (mappedBases class letters (unhex line) reference first position mapped count place)
+Inv-loop out₀ at reference first letters position line class place count mapped table step bytes here₀ p₀ next₀ left₀ out here p next left = BasesWalk bytes position count p left here × Rest out next (basesFrom letters reference first mapped p (editsAt class letters (unhex line) left here)) out₀ at (mappedBases class letters (unhex line) reference first position mapped count place)
 
 abbrev μ-loop : tie.MeasureT-loop
 μ-loop out₀ at reference first letters position line class place count mapped table step bytes here₀ p₀ next₀ left₀ out here p next left = left

@@ -7,14 +7,14 @@ use mir.Syntax.{w32}
 use denote.Ref.{now}
 use lib.ListN.{length, drop}
 use Rattle.unit.specs.State.{subsequences}
-use Rattle.listing.specs.Lines.{same}
+use Rattle.listing.specs.Lines.{sameList}
 use Rattle.listing.proofs.LinesLaws.{same-longer, same-over, same-stops, same-goes}
 use borrow.Author.Needs.{needs}
 use Rattle.decoder.proofs.all_taken.Statement.{statement}
 use Rattle.decoder.proofs.all_taken.Tie as tie
 
 abbrev Inv-loop : tie.InvT-loop
-Inv-loop counts index i₀ i = (i ≤ subsequences) × (length index ≡ subsequences) × (same (drop i index) (drop i counts) ≡ same index counts)
+Inv-loop counts index i₀ i = (i ≤ subsequences) × (length index ≡ subsequences) × (sameList (drop i index) (drop i counts) ≡ sameList index counts)
 
 abbrev μ-loop : tie.MeasureT-loop
 μ-loop counts index i₀ i = subsequences - i

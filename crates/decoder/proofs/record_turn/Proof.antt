@@ -6,7 +6,7 @@ use lib.ListN.{length, length-map}
 use borrow.Kind.Array.{good-length, eInt}
 use mir.Syntax.{w32}
 use Rattle.unit.specs.State.{subsequences}
-use Rattle.decoder.proofs.TurnLaws.{record-missing, record-listed, record-refused}
+use Rattle.decoder.proofs.TurnLaws.{record-missing, turn-listed, turn-refused}
 use borrow.Author.Needs.{needs}
 use Rattle.decoder.proofs.record_turn.Statement.{statement}
 use Rattle.decoder.proofs.record_turn.Tie as tie
@@ -48,7 +48,7 @@ returns-2 c =
     let at-if1 = at-record .before .before in
     let at-before = at-if1 .before .before .before .before .before in
     let start = at-before .before in
-    record-listed _ _ _ _ _ _ _ (at-if1 .if1 .left) (eight start) (start .pre) (at-record .«record» .ensures) _ (at-answer .answer .given .1)
+    turn-listed _ _ _ _ _ _ _ (at-if1 .if1 .left) (eight start) (start .pre) (at-record .«record» .ensures) _ (at-answer .answer .given .1)
 
 same-length-3 : tie.Need-same-length-3
 same-length-3 c = search needs
@@ -61,7 +61,7 @@ returns-3 c =
     let at-if1 = at-record .before .before in
     let at-before = at-if1 .before .before .before .before .before in
     let start = at-before .before in
-    record-refused _ _ _ _ _ _ _ (at-if1 .if1 .left) (eight start) (start .pre) (at-record .«record» .ensures) _ (at-answer2 .answer2 .given .1) (at-refuse2 .refuse2 .ensures)
+    turn-refused _ _ _ _ _ _ _ (at-if1 .if1 .left) (eight start) (start .pre) (at-record .«record» .ensures) _ (at-answer2 .answer2 .given .1) (at-refuse2 .refuse2 .ensures)
 
 pub record-turn-spec : {M : Type 1} → statement M
 record-turn-spec =

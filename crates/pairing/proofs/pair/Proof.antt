@@ -1,5 +1,5 @@
 -- `pairing::pair` meets its contract, by the rules of `With`. Assumes nothing.
-use Rattle.pairing.proofs.With.{done, given, missing, when, unless, same, differ}
+use Rattle.pairing.proofs.With.{done, decode-given, decode-missing, decode-when, decode-unless, decode-same, decode-differ}
 use Rattle.pairing.specs.Pairing.{pairOf, recordSteps}
 use borrow.Author.Needs.{needs}
 use Rattle.pairing.proofs.pair.Statement.{statement}
@@ -10,14 +10,14 @@ linked-requires c κs = search needs
 
 returns : tie.Need-returns
 unfolding pairOf recordSteps
-returns c = search (done, when, unless)
+returns c = search (done, decode-when, decode-unless)
 
 half-mapped-requires : tie.Need-half-mapped-requires
 half-mapped-requires c κs = search needs
 
 returns-2 : tie.Need-returns-2
 unfolding pairOf recordSteps
-returns-2 c = search (when, unless, same)
+returns-2 c = search (decode-when, decode-unless, decode-same)
 
 take-requires : tie.Need-take-requires
 take-requires c κs = search needs
@@ -33,14 +33,14 @@ refused-requires c κs = search needs
 
 returns-3 : tie.Need-returns-3
 unfolding pairOf recordSteps
-returns-3 c = search (given, missing, when, unless, same, differ)
+returns-3 c = search (decode-given, decode-missing, decode-when, decode-unless, decode-same, decode-differ)
 
 by-code-requires : tie.Need-by-code-requires
 by-code-requires c κs = search needs
 
 returns-4 : tie.Need-returns-4
 unfolding pairOf recordSteps
-returns-4 c = search (given, when, unless, same, differ)
+returns-4 c = search (decode-given, decode-when, decode-unless, decode-same, decode-differ)
 
 pub pair-spec : {M : Type 1} → statement M
 pair-spec =

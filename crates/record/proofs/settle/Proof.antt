@@ -1,4 +1,4 @@
--- `record::settle` meets its contract: `no-room`, and `room` over the bytes of the line, which are as many as the code counts. Assumes nothing.
+-- `record::settle` meets its contract: `record-no-room`, and `record-room` over the bytes of the line, which are as many as the code counts. Assumes nothing.
 use Prim.Native.Nat.{ℕ, _+_}
 use mathlib.Core.Path.{_≡_, sym, _∙_}
 use mathlib.Core.List.{List, map}
@@ -15,7 +15,7 @@ use Rattle.unit.specs.declared.State.{State}
 use Rattle.segment.specs.code.Length.{segmentLength}
 use Rattle.record.specs.Record.{after, listedBytes}
 use Rattle.record.proofs.BytesLaws.{length-listed}
-use Rattle.record.proofs.RoomLaws.{no-room, room}
+use Rattle.record.proofs.RoomLaws.{record-no-room, record-room}
 use borrow.Author.Needs.{needs}
 use Rattle.record.proofs.settle.Statement.{statement}
 use Rattle.record.proofs.settle.Tie as tie
@@ -58,7 +58,7 @@ returns c =
     let at-bytes2 = at-if1 .before in
     let at-bytes = at-bytes2 .before in
     let at-before = at-bytes .before .before .before in
-    let s = at-before .before in let w = no-room (s .args .state) (next s) (now (s .args .out)) (bytes s) (omega (arith, long s, at-bytes .bytes .ensures, at-bytes2 .bytes2 .ensures, at-if1 .if1 .taken)) in (c .refused .ensures ∙ w .0, w .1)
+    let s = at-before .before in let w = record-no-room (s .args .state) (next s) (now (s .args .out)) (bytes s) (omega (arith, long s, at-bytes .bytes .ensures, at-bytes2 .bytes2 .ensures, at-if1 .if1 .taken)) in (c .refused .ensures ∙ w .0, w .1)
 
 add-next : tie.Need-add-next
 add-next c = search needs
@@ -93,7 +93,7 @@ returns-2 c =
     let at-bytes2 = at-if1 .before in
     let at-bytes = at-bytes2 .before in
     let at-before = at-bytes .before .before .before in
-    let s = at-before .before in room (s .args .state) (next s) _ (bytes s) (omega (arith, long s, at-bytes .bytes .ensures, at-bytes2 .bytes2 .ensures, at-if1 .if1 .left)) (at-write .write .ensures)
+    let s = at-before .before in record-room (s .args .state) (next s) _ (bytes s) (omega (arith, long s, at-bytes .bytes .ensures, at-bytes2 .bytes2 .ensures, at-if1 .if1 .left)) (at-write .write .ensures)
 
 pub settle-spec : {M : Type 1} → statement M
 settle-spec =

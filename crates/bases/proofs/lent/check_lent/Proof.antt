@@ -3,7 +3,7 @@ use Prim.Native.Nat.{_-_}
 use native.Mathlib.Omega.{arith}
 use mathlib.Core.Path.{_≡_, refl, sym, _∙_}
 use Rattle.bases.specs.code.Helpers.{symbolsRefusal}
-use Rattle.bases.proofs.ReferenceLaws.{symbols-on, symbols-out, symbols-end}
+use Rattle.bases.proofs.ReferenceLaws.{lent-symbols-on, lent-symbols-out, lent-symbols-end}
 use borrow.Author.Needs.{needs}
 use Rattle.bases.proofs.lent.check_lent.Statement.{statement}
 use Rattle.bases.proofs.lent.check_lent.Tie as tie
@@ -32,7 +32,7 @@ returns c =
     let at-loop-test = at-wide .before .before in
     let at-loop = at-loop-test .before in
     let at-size = at-loop .before in
-    sym (symbols-out _ _ _ _ (at-size .size .ensures) (at-wide .wide .ensures) (at-loop-test .loop-test .taken) (omega arith)) ∙ at-loop .loop .inv
+    sym (lent-symbols-out _ _ _ _ (at-size .size .ensures) (at-wide .wide .ensures) (at-loop-test .loop-test .taken) (omega arith)) ∙ at-loop .loop .inv
 
 add-i : tie.Need-add-i Inv-loop μ-loop
 add-i c = search needs
@@ -46,10 +46,10 @@ loop-again c =
     let at-loop-test = at-wide .before .before in
     let at-loop = at-loop-test .before in
     let at-size = at-loop .before in
-    sym (symbols-on _ _ _ _ (at-size .size .ensures) (at-wide .wide .ensures) (at-loop-test .loop-test .taken) (c .if1 .left)) ∙ at-loop .loop .inv
+    sym (lent-symbols-on _ _ _ _ (at-size .size .ensures) (at-wide .wide .ensures) (at-loop-test .loop-test .taken) (c .if1 .left)) ∙ at-loop .loop .inv
 
 returns-2 : tie.Need-returns-2 Inv-loop μ-loop
-returns-2 c = sym (symbols-end _ _ _ _ (c .loop-test .left)) ∙ c .before .loop .inv
+returns-2 c = sym (lent-symbols-end _ _ _ _ (c .loop-test .left)) ∙ c .before .loop .inv
 
 pub check-lent-spec : {M : Type 1} → statement M
 check-lent-spec =

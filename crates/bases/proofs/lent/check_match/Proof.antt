@@ -1,6 +1,6 @@
 -- `bases::lent::check_match` meets its contract: what is padded is never refused, `match-split`. Assumes nothing.
 use mathlib.Core.Path.{refl, sym, _∙_}
-use Rattle.bases.proofs.ReferenceLaws.{split, match-split}
+use Rattle.bases.proofs.ReferenceLaws.{window-split, match-split}
 use borrow.Author.Needs.{needs}
 use Rattle.bases.proofs.lent.check_match.Statement.{statement}
 use Rattle.bases.proofs.lent.check_match.Tie as tie
@@ -18,10 +18,10 @@ lent-before-requires-2 : tie.Need-lent-before-requires-2
 lent-before-requires-2 c κs = search needs
 
 check-lent-requires : tie.Need-check-lent-requires
-check-lent-requires c κs = split _ _ _ _ refl refl (c .before .before .lent-before .ensures) (c .lent-before2 .ensures) .room
+check-lent-requires c κs = window-split _ _ _ _ refl refl (c .before .before .lent-before .ensures) (c .lent-before2 .ensures) .room
 
 returns : tie.Need-returns
-returns c = rw (← c .before .before .before .before .before .until .ensures) (c .check-lent .ensures ∙ sym (match-split _ _ _ _ _ (split _ _ _ _ refl refl (c .before .before .before .lent-before .ensures) (c .before .lent-before2 .ensures))))
+returns c = rw (← c .before .before .before .before .before .until .ensures) (c .check-lent .ensures ∙ sym (match-split _ _ _ _ _ (window-split _ _ _ _ refl refl (c .before .before .before .lent-before .ensures) (c .before .lent-before2 .ensures))))
 
 pub check-match-spec : {M : Type 1} → statement M
 check-match-spec =

@@ -1,7 +1,7 @@
 -- `bases::lent::put_matched` meets its contract: padding, lent bases, padding, `laid-matched`. Assumes nothing.
 use mathlib.Core.Path.{sym}
 use Rattle.writing.proofs.LayLaws.{laid-as, laid-none}
-use Rattle.bases.proofs.ReferenceLaws.{split, matched-none, room-lent, room-behind, laid-matched}
+use Rattle.bases.proofs.ReferenceLaws.{window-split, matched-none, room-lent, room-behind, laid-matched}
 use native.Mathlib.Omega.{arith}
 use borrow.Author.Needs.{needs}
 use Rattle.bases.proofs.lent.put_matched.Statement.{statement}
@@ -29,13 +29,13 @@ lent-before-requires-2 : tie.Need-lent-before-requires-2
 lent-before-requires-2 c κs = search needs
 
 sub-behind : tie.Need-sub-behind
-sub-behind c = let s = split _ _ _ _ (c .before .before .before .before .between .ensures) (c .before .before .before .least .ensures) (c .before .before .lent-before .ensures) (c .lent-before2 .ensures) in omega (arith, s .order, s .fits)
+sub-behind c = let s = window-split _ _ _ _ (c .before .before .before .before .between .ensures) (c .before .before .before .least .ensures) (c .before .before .lent-before .ensures) (c .lent-before2 .ensures) in omega (arith, s .order, s .fits)
 
 sub-behind-2 : tie.Need-sub-behind-2
-sub-behind-2 c = let s = split _ _ _ _ (c .before .before .before .before .between .ensures) (c .before .before .before .least .ensures) (c .before .before .lent-before .ensures) (c .lent-before2 .ensures) in omega (arith, s .order, s .fits)
+sub-behind-2 c = let s = window-split _ _ _ _ (c .before .before .before .before .between .ensures) (c .before .before .before .least .ensures) (c .before .before .lent-before .ensures) (c .lent-before2 .ensures) in omega (arith, s .order, s .fits)
 
 sub-behind-3 : tie.Need-sub-behind-3
-sub-behind-3 c = let s = split _ _ _ _ (c .before .before .before .before .between .ensures) (c .before .before .before .least .ensures) (c .before .before .lent-before .ensures) (c .lent-before2 .ensures) in omega (arith, s .order, s .fits)
+sub-behind-3 c = let s = window-split _ _ _ _ (c .before .before .before .before .between .ensures) (c .before .before .before .least .ensures) (c .before .before .lent-before .ensures) (c .lent-before2 .ensures) in omega (arith, s .order, s .fits)
 
 put-padding-requires : tie.Need-put-padding-requires
 put-padding-requires c κs =
@@ -45,7 +45,7 @@ put-padding-requires c κs =
     let at-between = at-least .before in
     let at-until = at-between .before .before .before in
     let at-start = at-until .before .before .before in
-    let s = split _ _ _ _ (at-between .between .ensures) (at-least .least .ensures) (at-lent-before .lent-before .ensures) (at-lent-before2 .lent-before2 .ensures) in omega (arith, s .fits, at-until .until .ensures, at-start .pre .1)
+    let s = window-split _ _ _ _ (at-between .between .ensures) (at-least .least .ensures) (at-lent-before .lent-before .ensures) (at-lent-before2 .lent-before2 .ensures) in omega (arith, s .fits, at-until .until .ensures, at-start .pre .1)
 
 put-lent-requires : tie.Need-put-lent-requires
 put-lent-requires c κs =
@@ -56,7 +56,7 @@ put-lent-requires c κs =
     let at-between = at-least .before in
     let at-until = at-between .before .before .before in
     let at-start = at-until .before .before .before in
-    let s = (split _ _ _ _ (at-between .between .ensures) (at-least .least .ensures) (at-lent-before .lent-before .ensures) (at-lent-before2 .lent-before2 .ensures)) in ((s .order, s .room), room-lent s (omega (arith, at-until .until .ensures, at-start .pre .1)) (at-put-padding .put-padding .ensures))
+    let s = (window-split _ _ _ _ (at-between .between .ensures) (at-least .least .ensures) (at-lent-before .lent-before .ensures) (at-lent-before2 .lent-before2 .ensures)) in ((s .order, s .room), room-lent s (omega (arith, at-until .until .ensures, at-start .pre .1)) (at-put-padding .put-padding .ensures))
 
 put-padding-requires-2 : tie.Need-put-padding-requires-2
 put-padding-requires-2 c κs =
@@ -68,7 +68,7 @@ put-padding-requires-2 c κs =
     let at-between = at-least .before in
     let at-until = at-between .before .before .before in
     let at-start = at-until .before .before .before in
-    room-behind (split _ _ _ _ (at-between .between .ensures) (at-least .least .ensures) (at-lent-before .lent-before .ensures) (at-lent-before2 .lent-before2 .ensures)) (omega (arith, at-until .until .ensures, at-start .pre .1)) (at-put-padding .put-padding .ensures) _ _ (at-put-lent .put-lent .ensures)
+    room-behind (window-split _ _ _ _ (at-between .between .ensures) (at-least .least .ensures) (at-lent-before .lent-before .ensures) (at-lent-before2 .lent-before2 .ensures)) (omega (arith, at-until .until .ensures, at-start .pre .1)) (at-put-padding .put-padding .ensures) _ _ (at-put-lent .put-lent .ensures)
 
 same-length : tie.Need-same-length
 same-length c = search needs
@@ -83,7 +83,7 @@ returns-2 c =
     let at-least = at-lent-before .before in
     let at-between = at-least .before in
     let at-until = at-between .before .before .before in
-    rw (← at-until .until .ensures) (laid-matched _ _ _ _ _ (at-put-padding .put-padding .ensures) (at-put-lent .put-lent .ensures) (at-put-padding2 .put-padding2 .ensures) (split _ _ _ _ (at-between .between .ensures) (at-least .least .ensures) (at-lent-before .lent-before .ensures) (at-lent-before2 .lent-before2 .ensures)))
+    rw (← at-until .until .ensures) (laid-matched _ _ _ _ _ (at-put-padding .put-padding .ensures) (at-put-lent .put-lent .ensures) (at-put-padding2 .put-padding2 .ensures) (window-split _ _ _ _ (at-between .between .ensures) (at-least .least .ensures) (at-lent-before .lent-before .ensures) (at-lent-before2 .lent-before2 .ensures)))
 
 pub put-matched-spec : {M : Type 1} → statement M
 put-matched-spec =

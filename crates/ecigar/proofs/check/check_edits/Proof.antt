@@ -2,7 +2,7 @@
 use native.Mathlib.Omega.{arith}
 use mathlib.Core.Path.{refl, sym, _∙_, _≡_}
 use Rattle.ecigar.proofs.CheckLaws.{ends-room, checkedFrom, check-start, check-short, check-out, check-on, check-end, TallyWithin, within-on}
-use Rattle.edits.proofs.EditLaws.{accepted}
+use Rattle.edits.proofs.EditLaws.{edit-accepted}
 use mathlib.Core.Logic.{inl}
 use Rattle.frame.specs.Hex.{unhex}
 use Rattle.ecigar.specs.Check.{editsChecked}
@@ -67,7 +67,7 @@ take-edit-requires c κs =
     let at-loop-test = at-refusal-of .before .before .before .before .before in
     let at-loop = at-loop-test .before in
     let at-start = at-loop .before .before .before .before .before in
-    let a = accepted _ _ _ _ (sym (at-refusal-of .refusal-of .ensures) ∙ c .if2 .left) in
+    let a = edit-accepted _ _ _ _ (sym (at-refusal-of .refusal-of .ensures) ∙ c .if2 .left) in
     let g = at-loop .loop .inv .0 in
     omega (arith, a .order, g .next, g .run, g .taken, g .text, at-loop-test .loop-test .taken, at-start .pre)
 
@@ -103,7 +103,7 @@ loop-again c =
     let size = at-size .size .ensures in
     let whole = sym (at-if1 .if1 .left) ∙ at-ends-within .ends-within .ensures in
     let more = at-loop-test .loop-test .taken in (
-      within-on _ _ _ _ _ _ _ (at-loop .loop .inv .0) more (accepted _ _ _ _ z) (c .take-edit .ensures),
+      within-on _ _ _ _ _ _ _ (at-loop .loop .inv .0) more (edit-accepted _ _ _ _ z) (c .take-edit .ensures),
       sym (check-on _ _ _ _ _ _ _ _ _ wide size more _ (at-edit-at .edit-at .ensures) whole _ z (c .take-edit .ensures)) ∙ at-loop .loop .inv .1,
     )
 

@@ -2,7 +2,7 @@
 use borrow.Author.Needs.{needs}
 use native.Mathlib.Omega.{arith}
 use mathlib.Core.Path.{sym}
-use Rattle.ecigar.proofs.TextLaws.{text-parts, length-text}
+use Rattle.ecigar.proofs.TextLaws.{text-parts, length-ecigarText}
 use Rattle.writing.proofs.LayLaws.{laid-then, laid-as, length-laid}
 use Rattle.frame.specs.Hex.{unhex}
 use Rattle.ecigar.proofs.text.write.Statement.{statement}
@@ -20,7 +20,7 @@ cast-put-clip-2 c = search needs
 put-clip-requires : tie.Need-put-clip-requires
 put-clip-requires c κs =
     let s = c .before .before .before .before .before .before .before in
-    omega (arith, s .pre .1 .1, length-text (s .args .class) (s .args .alphabet) (unhex (s .args .line .now)) (s .args .block))
+    omega (arith, s .pre .1 .1, length-ecigarText (s .args .class) (s .args .alphabet) (unhex (s .args .line .now)) (s .args .block))
 
 write-edits-requires : tie.Need-write-edits-requires
 write-edits-requires c κs =
@@ -30,7 +30,7 @@ write-edits-requires c κs =
     let s = at-before .before in
     let m = at-mapped-length .mapped-length .ensures in
     let p = at-put-clip .put-clip .ensures in
-    let n = length-text (s .args .class) (s .args .alphabet) (unhex (s .args .line .now)) (s .args .block) in
+    let n = length-ecigarText (s .args .class) (s .args .alphabet) (unhex (s .args .line .now)) (s .args .block) in
     (s .pre .0, (rw m (s .pre .1 .0), rw m (omega (arith, s .pre .1 .1, n, p .to, length-laid p))))
 
 cast-put-clip-3 : tie.Need-cast-put-clip-3
@@ -48,7 +48,7 @@ put-clip-requires-2 c κs =
     let s = at-before .before in
     let p = at-put-clip .put-clip .ensures in
     let e = rw (at-mapped-length .mapped-length .ensures) at (at-write-edits .write-edits .ensures) in
-    let n = length-text (s .args .class) (s .args .alphabet) (unhex (s .args .line .now)) (s .args .block) in
+    let n = length-ecigarText (s .args .class) (s .args .alphabet) (unhex (s .args .line .now)) (s .args .block) in
     omega (arith, s .pre .1 .1, n, p .to, length-laid p, e .to, length-laid e)
 
 same-length : tie.Need-same-length

@@ -1,7 +1,7 @@
--- `front::reference_line::read` meets its contract: a refused line leaves the reference, `reference-kept`, and an accepted one stores its bases, `reference-stored`. Assumes nothing.
+-- `front::reference_line::read` meets its contract: a refused line leaves the reference, `bases-kept`, and an accepted one stores its bases, `reference-stored`. Assumes nothing.
 use mathlib.Core.Path.{sym, _∙_}
 use native.Mathlib.Omega.{arith}
-use Rattle.front.proofs.ReferenceLaws.{reference-accepted, reference-kept, reference-stored}
+use Rattle.front.proofs.ReferenceLaws.{reference-accepted, bases-kept, reference-stored}
 use borrow.Author.Needs.{needs}
 use Rattle.front.proofs.reference_line.read.Statement.{statement}
 use Rattle.front.proofs.reference_line.read.Tie as tie
@@ -16,7 +16,7 @@ enum-told-2 : tie.Need-enum-told-2
 enum-told-2 c = search needs
 
 returns : tie.Need-returns
-returns c = reference-kept _ _ _ _ (c .enum-told2 .given .1) (c .before .before .read-count .ensures)
+returns c = bases-kept _ _ _ _ (c .enum-told2 .given .1) (c .before .before .read-count .ensures)
 
 lay-bases-requires : tie.Need-lay-bases-requires
 lay-bases-requires c κs = let w = reference-accepted _ _ _ _ (sym (c .before .enum-told .given .1) ∙ c .before .before .before .read-count .ensures) in omega (arith, w .added .count, w .added .room)

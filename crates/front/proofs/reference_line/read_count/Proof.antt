@@ -5,7 +5,7 @@ use native.Mathlib.Omega.{arith}
 use Rattle.frame.proofs.HexLaws.{length-unhex}
 use Rattle.frame.proofs.FieldLaws.{value-is-field}
 use Rattle.frame.proofs.StepLaws.{steps}
-use Rattle.front.proofs.ReferenceLaws.{counted}
+use Rattle.front.proofs.ReferenceLaws.{added-counted}
 use borrow.Author.Needs.{needs}
 use Rattle.front.proofs.reference_line.read_count.Statement.{statement}
 use Rattle.front.proofs.reference_line.read_count.Tie as tie
@@ -48,7 +48,7 @@ add-bases-requires c κs = search needs
 
 returns-4 : tie.Need-returns-4
 unfolding referenceLine
-returns-4 c = search (steps, counted)
+returns-4 c = search (steps, added-counted)
 
 pub read-count-spec : {M : Type 1} → statement M
 read-count-spec =

@@ -1,5 +1,5 @@
 -- `lampbuckle::lines::lampbuckle_pair_line` meets its contract, by the test of the shape and by what the reader answered. Assumes nothing.
-use Rattle.lampbuckle.proofs.LineLaws.{pair-refused, pair-read, pair-place}
+use Rattle.lampbuckle.proofs.LineLaws.{pair-call-refused, pair-read, pair-place}
 use Rattle.lampbuckle.specs.Lines.{pairCall}
 use Rattle.lampbuckle.proofs.AnswerLaws.{told}
 use denote.Ref.{now}
@@ -52,7 +52,7 @@ returns-2 c =
     let at-n = c .before .before in
     let at-read = at-n .before .before .before .before in
     let at-if1 = at-read .before .before in
-    pair-refused _ _ _ _ (at-if1 .if1 .left) (at-read .read .ensures) (at-n .n .given .1) (told (c .refused2 .ok) (c .refused2 .ensures))
+    pair-call-refused _ _ _ _ (at-if1 .if1 .left) (at-read .read .ensures) (at-n .n .given .1) (told (c .refused2 .ok) (c .refused2 .ensures))
 
 same-length-2 : tie.Need-same-length-2
 same-length-2 c = search needs

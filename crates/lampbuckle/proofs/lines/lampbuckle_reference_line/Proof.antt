@@ -1,5 +1,5 @@
 -- `lampbuckle::lines::lampbuckle_reference_line` meets its contract, by what the reader answered. Assumes nothing.
-use Rattle.lampbuckle.proofs.LineLaws.{reference-refused, reference-read, reference-counted}
+use Rattle.lampbuckle.proofs.LineLaws.{reference-call-refused, reference-read, reference-counted}
 use Rattle.lampbuckle.proofs.AnswerLaws.{told}
 use borrow.Author.Needs.{needs}
 use Rattle.lampbuckle.proofs.lines.lampbuckle_reference_line.Statement.{statement}
@@ -24,7 +24,7 @@ same-length : tie.Need-same-length
 same-length c = search needs
 
 returns : tie.Need-returns
-returns c = reference-refused _ _ _ (c .before .before .before .before .before .before .read .ensures) (c .before .before .n .given .1) (told (c .refused .ok) (c .refused .ensures))
+returns c = reference-call-refused _ _ _ (c .before .before .before .before .before .before .read .ensures) (c .before .before .n .given .1) (told (c .refused .ok) (c .refused .ensures))
 
 same-length-2 : tie.Need-same-length-2
 same-length-2 c = search needs

@@ -1,5 +1,5 @@
 -- `lampbuckle::lines::lampbuckle_unit_line` meets its contract, by the test of the shape and by what the reader answered. Assumes nothing.
-use Rattle.lampbuckle.proofs.LineLaws.{unit-refused, unit-read}
+use Rattle.lampbuckle.proofs.LineLaws.{unit-call-refused, unit-call-read}
 use Rattle.lampbuckle.specs.Lines.{unitCall}
 use Rattle.lampbuckle.proofs.AnswerLaws.{told}
 use borrow.Author.Needs.{needs}
@@ -33,7 +33,7 @@ counted-requires : tie.Need-counted-requires
 counted-requires c κs = search needs
 
 returns-2 : tie.Need-returns-2
-returns-2 c = unit-refused _ _ (c .before .before .before .before .before .if1 .left) (c .before .before .before .before .read .ensures) (c .before .before .n .given .1) (told (c .refused2 .ok) (c .refused2 .ensures))
+returns-2 c = unit-call-refused _ _ (c .before .before .before .before .before .if1 .left) (c .before .before .before .before .read .ensures) (c .before .before .n .given .1) (told (c .refused2 .ok) (c .refused2 .ensures))
 
 same-length : tie.Need-same-length
 same-length c = search needs
@@ -44,7 +44,7 @@ returns-3 c =
     let at-u = at-lay-unit .before .before .before in
     let at-read = at-u .before .before in
     let at-if1 = at-read .before in
-    unit-read _ _ (at-if1 .if1 .left) (at-read .read .ensures) (at-u .u .given .1) (at-lay-unit .lay-unit .ensures) (told (c .counted .ok) (c .counted .ensures))
+    unit-call-read _ _ (at-if1 .if1 .left) (at-read .read .ensures) (at-u .u .given .1) (at-lay-unit .lay-unit .ensures) (told (c .counted .ok) (c .counted .ensures))
 
 pub lampbuckle-unit-line-spec : {M : Type 1} → statement M
 lampbuckle-unit-line-spec =

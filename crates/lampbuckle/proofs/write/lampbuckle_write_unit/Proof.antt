@@ -3,7 +3,7 @@ use native.Mathlib.Omega.{arith}
 use Rattle.lampbuckle.specs.Numbers.{unitNumbersRefusal}
 use Rattle.lampbuckle.specs.Write.{unitWritten}
 use Rattle.lampbuckle.proofs.AnswerLaws.{told}
-use Rattle.lampbuckle.proofs.WriteLaws.{line-counted, unit-refused, unit-written}
+use Rattle.lampbuckle.proofs.WriteLaws.{line-counted, unit-written-refused, unit-written}
 use borrow.Author.Needs.{needs}
 use borrow.Author.Tests.{ne-eqb}
 use Rattle.lampbuckle.proofs.write.lampbuckle_write_unit.Statement.{statement}
@@ -26,7 +26,7 @@ refused-requires-2 : tie.Need-refused-requires-2
 refused-requires-2 c κs = search needs
 
 returns-2 : tie.Need-returns-2
-returns-2 c = unit-refused _ _ (c .before .before .before .before .if1 .left) (c .before .before .before .read-unit .ensures) (c .before .before .refusal .ensures) (c .before .if2 .taken) (told (c .refused2 .ok) (c .refused2 .ensures))
+returns-2 c = unit-written-refused _ _ (c .before .before .before .before .if1 .left) (c .before .before .before .read-unit .ensures) (c .before .before .refusal .ensures) (c .before .if2 .taken) (told (c .refused2 .ok) (c .refused2 .ensures))
 
 write-requires : tie.Need-write-requires
 write-requires c κs = search needs

@@ -1,6 +1,6 @@
 -- `pairing::rows::by_code` meets its contract: each arm is its row, by what the row's function ensures. Assumes nothing.
 use mathlib.Core.Path.{refl}
-use Rattle.pairing.proofs.With.{done, no-case, differ}
+use Rattle.pairing.proofs.With.{done, no-case, decode-differ}
 use Rattle.pairing.specs.Table60.{table60}
 use borrow.Author.Needs.{needs}
 use Rattle.pairing.proofs.rows.by_code.Statement.{statement}
@@ -60,7 +60,7 @@ returns-7 c = rw (c .before .match .keys7) (done _ _ _ _ _ _ _ _ _ _ _ (c .linke
 
 returns-8 : tie.Need-returns-8
 unfolding table60
-returns-8 c = search (no-case, differ) depth 12
+returns-8 c = search (no-case, decode-differ) depth 12
 
 pub by-code-spec : {M : Type 1} → statement M
 by-code-spec =

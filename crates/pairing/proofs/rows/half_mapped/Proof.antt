@@ -1,5 +1,5 @@
 -- `pairing::rows::half_mapped` meets its contract, by the rules of `With`. Assumes nothing.
-use Rattle.pairing.proofs.With.{done, given, missing, fits, above}
+use Rattle.pairing.proofs.With.{done, decode-given, decode-missing, fits, above}
 use Rattle.pairing.specs.Table60.{HM-same-rec}
 use borrow.Author.Needs.{needs}
 use Rattle.pairing.proofs.rows.half_mapped.Statement.{statement}
@@ -19,14 +19,14 @@ refused-requires c κs = search needs
 
 returns : tie.Need-returns
 unfolding HM-same-rec
-returns c = search (given, missing)
+returns c = search (decode-given, decode-missing)
 
 refused-requires-2 : tie.Need-refused-requires-2
 refused-requires-2 c κs = search needs
 
 returns-2 : tie.Need-returns-2
 unfolding HM-same-rec
-returns-2 c = search (given, missing, fits, above)
+returns-2 c = search (decode-given, decode-missing, fits, above)
 
 read-first-requires : tie.Need-read-first-requires
 read-first-requires c κs = search needs
@@ -36,7 +36,7 @@ linked-requires c κs = search needs
 
 returns-3 : tie.Need-returns-3
 unfolding HM-same-rec
-returns-3 c = search (done, given, missing, fits, above)
+returns-3 c = search (done, decode-given, decode-missing, fits, above)
 
 pub half-mapped-spec : {M : Type 1} → statement M
 half-mapped-spec =

@@ -1,5 +1,5 @@
 -- `pairing::rows::same_rec` meets its contract, by the rules of `With`. Assumes nothing.
-use Rattle.pairing.proofs.With.{done, given, missing, fits, above, same, differ}
+use Rattle.pairing.proofs.With.{done, decode-given, decode-missing, fits, above, decode-same, decode-differ}
 use Rattle.pairing.specs.Table60.{same-rec}
 use borrow.Author.Needs.{needs}
 use Rattle.pairing.proofs.rows.same_rec.Statement.{statement}
@@ -10,7 +10,7 @@ linked-requires c κs = search needs
 
 returns : tie.Need-returns
 unfolding same-rec
-returns c = search (done, same, differ)
+returns c = search (done, decode-same, decode-differ)
 
 take-requires : tie.Need-take-requires
 take-requires c κs = search needs
@@ -26,14 +26,14 @@ refused-requires c κs = search needs
 
 returns-2 : tie.Need-returns-2
 unfolding same-rec
-returns-2 c = search (given, missing, same, differ)
+returns-2 c = search (decode-given, decode-missing, decode-same, decode-differ)
 
 refused-requires-2 : tie.Need-refused-requires-2
 refused-requires-2 c κs = search needs
 
 returns-3 : tie.Need-returns-3
 unfolding same-rec
-returns-3 c = search (given, missing, fits, above, same, differ)
+returns-3 c = search (decode-given, decode-missing, fits, above, decode-same, decode-differ)
 
 read-first-requires : tie.Need-read-first-requires
 read-first-requires c κs = search needs
@@ -43,7 +43,7 @@ linked-requires-2 c κs = search needs
 
 returns-4 : tie.Need-returns-4
 unfolding same-rec
-returns-4 c = search (done, given, missing, fits, above, same, differ)
+returns-4 c = search (done, decode-given, decode-missing, fits, above, decode-same, decode-differ)
 
 pub same-rec-spec : {M : Type 1} → statement M
 same-rec-spec =

@@ -1,5 +1,5 @@
 -- `pairing::rows::split` meets its contract, by the rules of `With`. Assumes nothing.
-use Rattle.pairing.proofs.With.{done, given, missing}
+use Rattle.pairing.proofs.With.{done, decode-given, decode-missing}
 use Rattle.pairing.specs.Table60.{split}
 use borrow.Author.Needs.{needs}
 use Rattle.pairing.proofs.rows.split.Statement.{statement}
@@ -19,7 +19,7 @@ refused-requires c κs = search needs
 
 returns : tie.Need-returns
 unfolding split
-returns c = search (given, missing)
+returns c = search (decode-given, decode-missing)
 
 mate-at-requires : tie.Need-mate-at-requires
 mate-at-requires c κs = search needs
@@ -29,7 +29,7 @@ linked-requires c κs = search needs
 
 returns-2 : tie.Need-returns-2
 unfolding split
-returns-2 c = search (done, given, missing)
+returns-2 c = search (done, decode-given, decode-missing)
 
 pub split-spec : {M : Type 1} → statement M
 split-spec =

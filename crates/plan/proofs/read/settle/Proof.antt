@@ -1,5 +1,5 @@
 -- `plan::read::settle` meets its contract, case by case. Assumes nothing.
-use Rattle.plan.proofs.Steps.{kept, moved}
+use Rattle.plan.proofs.Steps.{settled-refused, moved}
 use borrow.Author.Needs.{needs}
 use Rattle.plan.proofs.read.settle.Statement.{statement}
 use Rattle.plan.proofs.read.settle.Tie as tie
@@ -14,10 +14,10 @@ enum-known-planned-2 : tie.Need-enum-known-planned-2
 enum-known-planned-2 c = search needs
 
 returns : tie.Need-returns
-returns c = search (kept, moved)
+returns c = search (settled-refused, moved)
 
 returns-2 : tie.Need-returns-2
-returns-2 c = search (kept, moved)
+returns-2 c = search (settled-refused, moved)
 
 pub settle-spec : {M : Type 1} → statement M
 settle-spec =

@@ -53,7 +53,7 @@ use Rattle.reader.specs.declared.Reader.{Reader}
 use Rattle.reader.specs.declared.Width.{Width}
 use Rattle.reader.specs.declared.Width.the-variants.{U8, U16, U32}
 use Rattle.reader.specs.declared.head.Head.{Head}
-use Rattle.reader.proofs.Lent.{Kept, tokens, loan, lends, back}
+use Rattle.reader.proofs.Lent.{LentKept, tokens, loan, lends, back}
 use Rattle.reader.proofs.HeadLaws.{pos-behind}
 use Rattle.reader.proofs.Reader as T
 use Rattle.reader.proofs.Reader.Laws as T′
@@ -217,7 +217,7 @@ module _ {M : Type 1} (𝓤 : URA M) (H : Heap 𝓤) (A : Atoms 𝓤) (W : Given
         assigns ! (addr ! (from ! (stop !))) (from ! (stop !)) (init ! 7 refl (tt, tt)) $
         assigns ! (agg ! (and-then ! (lit ! tt) (no-more !))) (from ! (stop !)) (init ! 5 refl (EL.lawful D.the-type D′.the-laws 𝓤 H A W tt .typed U8 _ (is-wide U8) .0)) $
         -- `field`, at the front
-        use2 W (later (some (λ (ν : ℕ). some (λ (δ : GName). (raw (tokens 𝓤 H A W R κ q l₂ 0 ν) ⊛ ‵ (loan 𝓤 H A W R κ q l₂ 0 (named 0) ν δ r₀)) ⊛ raw (Kept 𝓤 H A W R κ q l₂ 0 ν δ))))) (lends 𝓤 H A W R κ q l₂ 0 (named 0) r₀) $ await ! tt $ pick ! (λ ν. pick ! (λ δ. split ! $
+        use2 W (later (some (λ (ν : ℕ). some (λ (δ : GName). (raw (tokens 𝓤 H A W R κ q l₂ 0 ν) ⊛ ‵ (loan 𝓤 H A W R κ q l₂ 0 (named 0) ν δ r₀)) ⊛ raw (LentKept 𝓤 H A W R κ q l₂ 0 ν δ))))) (lends 𝓤 H A W R κ q l₂ 0 (named 0) r₀) $ await ! tt $ pick ! (λ ν. pick ! (λ δ. split ! $
         use1 W (raw (FieldOf 𝓤 H A at-mem run .pre (to-field l₂ ν δ r₀ U8))) (goes-field l₂ ν δ r₀ U8) $
         calls-at ! fm (FieldOf 𝓤 H A at-mem run) known-field (to-field l₂ ν δ r₀ U8) (and-then ! (load ! (from ! (stop !)) (look ! 7 refl)) (and-then ! (load ! (from ! (stop !)) (look ! 5 refl)) (no-more !))) (λ u₁.
         use1 W (later (some (λ (f : Field). (raw (tokens 𝓤 H A W R κ q l₂ 0 ν) ⊛ ‵ (F.the-row .own f (u₁ ∷ []))) ⊛ raw (ensured 𝓤 H A field.ended (field.clauses 𝓤 H A at-mem run) (ν ∷ κ, (κ, tt)) (lent l₂ ν δ r₀ U8, (U8, tt)) tt f)))) (id⊢ 𝓤 _) $ await ! tt $ pick ! (λ f.
@@ -229,7 +229,7 @@ module _ {M : Type 1} (𝓤 : URA M) (H : Heap 𝓤) (A : Atoms 𝓤) (W : Given
         -- `field`, behind the first
         assigns ! (addr ! (from ! (stop !))) (from ! (stop !)) (init ! 3 refl (tt, tt)) $
         assigns ! (agg ! (and-then ! (lit ! tt) (no-more !))) (from ! (stop !)) (store ! 5 refl (EL.lawful D.the-type D′.the-laws 𝓤 H A W tt .typed U32 _ (is-wide U32) .0)) $
-        use2 W (later (some (λ (ν : ℕ). some (λ (δ : GName). (raw (tokens 𝓤 H A W R κ q l₂ 0 ν) ⊛ ‵ (loan 𝓤 H A W R κ q l₂ 0 (named 0) ν δ (further r₀ f))) ⊛ raw (Kept 𝓤 H A W R κ q l₂ 0 ν δ))))) (lends 𝓤 H A W R κ q l₂ 0 (named 0) (further r₀ f)) $ await ! tt $ pick ! (λ ν′. pick ! (λ δ′. split ! $
+        use2 W (later (some (λ (ν : ℕ). some (λ (δ : GName). (raw (tokens 𝓤 H A W R κ q l₂ 0 ν) ⊛ ‵ (loan 𝓤 H A W R κ q l₂ 0 (named 0) ν δ (further r₀ f))) ⊛ raw (LentKept 𝓤 H A W R κ q l₂ 0 ν δ))))) (lends 𝓤 H A W R κ q l₂ 0 (named 0) (further r₀ f)) $ await ! tt $ pick ! (λ ν′. pick ! (λ δ′. split ! $
         use1 W (raw (FieldOf 𝓤 H A at-mem run .pre (to-field l₂ ν′ δ′ (further r₀ f) U32))) (goes-field l₂ ν′ δ′ (further r₀ f) U32) $
         calls-at ! fm (FieldOf 𝓤 H A at-mem run) known-field (to-field l₂ ν′ δ′ (further r₀ f) U32) (and-then ! (load ! (from ! (stop !)) (look ! 3 refl)) (and-then ! (load ! (from ! (stop !)) (look ! 5 refl)) (no-more !))) (λ u₂.
         use1 W (later (some (λ (g : Field). (raw (tokens 𝓤 H A W R κ q l₂ 0 ν′) ⊛ ‵ (F.the-row .own g (u₂ ∷ []))) ⊛ raw (ensured 𝓤 H A field.ended (field.clauses 𝓤 H A at-mem run) (ν′ ∷ κ, (κ, tt)) (lent l₂ ν′ δ′ (further r₀ f) U32, (U32, tt)) tt g)))) (id⊢ 𝓤 _) $ await ! tt $ pick ! (λ g.

@@ -4,13 +4,13 @@ use native.Mathlib.Omega.{arith}
 use mathlib.Core.Path.{_≡_, refl, sym, _∙_}
 use denote.Ref.{now}
 use lib.ListN.{drop}
-use Rattle.listing.specs.Lines.{same}
+use Rattle.listing.specs.Lines.{sameList}
 use Rattle.listing.proofs.LinesLaws.{same-longer, same-over, same-stops, same-goes}
 use Rattle.resuming.proofs.place.same.Statement.{statement}
 use Rattle.resuming.proofs.place.same.Tie as tie
 
 abbrev Inv-loop : tie.InvT-loop
-Inv-loop a b n i₀ i = (i ≤ n) × (same (drop i a) (drop i b) ≡ same a b)
+Inv-loop a b n i₀ i = (i ≤ n) × (sameList (drop i a) (drop i b) ≡ sameList a b)
 
 abbrev μ-loop : tie.MeasureT-loop
 μ-loop a b n i₀ i = n - i

@@ -5,7 +5,7 @@ use lib.ListN.{length-append}
 use Rattle.frame.proofs.HexLaws.{length-be}
 use Rattle.writing.proofs.LayLaws.{laid-as, laid-then}
 use Rattle.segment.specs.Segment.{alignedBytes}
-use Rattle.segment.proofs.WriteLaws.{ready-text, room-behind}
+use Rattle.segment.proofs.WriteLaws.{ready-text, room-for-next}
 use Rattle.segment.proofs.write.write_aligned.Statement.{statement}
 use Rattle.segment.proofs.write.write_aligned.Tie as tie
 
@@ -42,14 +42,14 @@ write-requires : tie.Need-write-requires
 unfolding alignedBytes
 write-requires c κs =
     let a = c .before .before .before in
-    room-behind _ (laid-as (at-head a .head .ensures) (a .put-bytes .ensures)) (start (at-head a) .pre .1) (simp (length-append, length-be) (omega arith))
+    room-for-next _ (laid-as (at-head a .head .ensures) (a .put-bytes .ensures)) (start (at-head a) .pre .1) (simp (length-append, length-be) (omega arith))
 
 put-u16-requires : tie.Need-put-u16-requires
 unfolding alignedBytes
 put-u16-requires c κs =
     let b = c .before .before .before in
     let a = at-bytes b in
-    room-behind 2 (laid-then (laid-as (at-head a .head .ensures) (a .put-bytes .ensures)) (b .write .ensures)) (start (at-head a) .pre .1)
+    room-for-next 2 (laid-then (laid-as (at-head a .head .ensures) (a .put-bytes .ensures)) (b .write .ensures)) (start (at-head a) .pre .1)
     (simp (length-append, length-be) (omega arith))
 
 write-requires-2 : tie.Need-write-requires-2
@@ -60,7 +60,7 @@ write-requires-2 c κs =
     let a = at-bytes b in
     let g = start (at-head a) .pre .0 in
     let l = laid-then (laid-then (laid-as (at-head a .head .ensures) (a .put-bytes .ensures)) (b .write .ensures)) (d .put-u16 .ensures) in
-    ((g .few, g .framed), (g .sound, rw (ready-text g) (room-behind _ l (start (at-head a) .pre .1) (simp (length-append, length-be) (omega arith)))))
+    ((g .few, g .framed), (g .sound, rw (ready-text g) (room-for-next _ l (start (at-head a) .pre .1) (simp (length-append, length-be) (omega arith)))))
 
 same-length : tie.Need-same-length
 same-length c = search needs

@@ -6,7 +6,7 @@ use Rattle.frame.proofs.HexLaws.{length-unhex, length-be}
 use Rattle.writing.proofs.LayLaws.{laid-as, laid-then}
 use Rattle.bases.proofs.ReferenceLaws.{length-letters}
 use Rattle.segment.specs.Segment.{unalignedBytes}
-use Rattle.segment.proofs.WriteLaws.{room-behind, so-many}
+use Rattle.segment.proofs.WriteLaws.{room-for-next, so-many}
 use borrow.Author.Needs.{needs}
 use Rattle.segment.proofs.write.write_unaligned.Statement.{statement}
 use Rattle.segment.proofs.write.write_unaligned.Tie as tie
@@ -48,7 +48,7 @@ unfolding unalignedBytes
 put-letters-requires c κs =
     let a = c .before .before .before in
     let s = start (at-head a) in
-    (omega arith, rw (so-many (s .args .s .at) (s .args .s .length)) (room-behind _ (laid-as (at-head a .head .ensures) (a .put-bytes .ensures)) (s .pre .1) (simp (length-append, length-be, length-letters) (omega arith))))
+    (omega arith, rw (so-many (s .args .s .at) (s .args .s .length)) (room-for-next _ (laid-as (at-head a .head .ensures) (a .put-bytes .ensures)) (s .pre .1) (simp (length-append, length-be, length-letters) (omega arith))))
 
 put-u16-requires : tie.Need-put-u16-requires
 unfolding unalignedBytes
@@ -56,7 +56,7 @@ put-u16-requires c κs =
     let b = c .before .before .before in
     let a = at-bytes b in
     let s = start (at-head a) in
-    room-behind 2 (laid-then (laid-as (at-head a .head .ensures) (a .put-bytes .ensures)) (rw (so-many (s .args .s .at) (s .args .s .length)) at (b .put-letters .ensures))) (s .pre .1)
+    room-for-next 2 (laid-then (laid-as (at-head a .head .ensures) (a .put-bytes .ensures)) (rw (so-many (s .args .s .at) (s .args .s .length)) at (b .put-letters .ensures))) (s .pre .1)
     (simp (length-append, length-be) (omega arith))
 
 same-length : tie.Need-same-length
