@@ -44,3 +44,6 @@ module _ (x : AlignedRead) (answer spec : EditsChecked) (class : ℕ) (s : Block
 
   pub unedited : (n : ℕ) → answer ≡ spec → answer ≡ edits.Refused n → x ≡ block.Refused n → x ≡ afterEdits class s spec
   unedited n e h k = rw (← e, h) k
+
+-- each of them, for `search`
+pub ruleset blockSteps = (field-accepted, field-rejected, clipped, unclipped, edited, unedited)

@@ -1,5 +1,5 @@
 -- `segment::place_block` meets its contract: each number that was answered refuses or not. Assumes nothing.
-use mathlib.Core.Path.{refl, sym, _∙_}
+use mathlib.Core.Path.{sym, _∙_}
 use native.Mathlib.Omega.{arith}
 use Rattle.segment.proofs.PlaceLaws.{place-inside}
 use Rattle.segment.proofs.Steps.{passes, stops}
@@ -13,7 +13,7 @@ refusal-of-requires c κs = search needs
 
 returns : tie.Need-returns
 unfolding placed
-returns c = search (passes, stops, refl)
+returns c = search (passes, stops)
 
 cast-start : tie.Need-cast-start
 cast-start c = let h = place-inside _ _ _ _ (sym (c .before .refusal-of .ensures) ∙ c .if1 .left) in omega arith
@@ -26,11 +26,11 @@ check-reference-requires c κs = search needs
 
 returns-2 : tie.Need-returns-2
 unfolding placed
-returns-2 c = rw (← c .before .before .mapped-length .ensures) (search (passes, stops, refl))
+returns-2 c = rw (← c .before .before .mapped-length .ensures) (search (passes, stops))
 
 returns-3 : tie.Need-returns-3
 unfolding placed
-returns-3 c = rw (← c .before .before .before .mapped-length .ensures) (search (passes, stops, refl))
+returns-3 c = rw (← c .before .before .before .mapped-length .ensures) (search (passes, stops))
 
 pub place-block-spec : {M : Type 1} → statement M
 place-block-spec =

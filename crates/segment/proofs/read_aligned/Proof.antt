@@ -1,5 +1,4 @@
 -- `segment::read_aligned` meets its contract: what the block was read as picks the case. Assumes nothing.
-use mathlib.Core.Path.{refl}
 use Rattle.segment.proofs.Steps.{blocked, unblocked}
 use Rattle.segment.specs.Segment.{placedAt}
 use borrow.Author.Needs.{needs}
@@ -20,11 +19,11 @@ place-block-requires c κs = search needs
 
 returns : tie.Need-returns
 unfolding placedAt
-returns c = search (blocked, unblocked, refl)
+returns c = search (blocked, unblocked)
 
 returns-2 : tie.Need-returns-2
 unfolding placedAt
-returns-2 c = search (blocked, unblocked, refl)
+returns-2 c = search (blocked, unblocked)
 
 pub read-aligned-spec : {M : Type 1} → statement M
 read-aligned-spec =

@@ -1,5 +1,4 @@
 -- `segment::read_unaligned` meets its contract: what the block was read as picks the case. Assumes nothing.
-use mathlib.Core.Path.{refl}
 use Rattle.segment.proofs.Steps.{plain, no-plain}
 use Rattle.segment.specs.Segment.{plainAt}
 use borrow.Author.Needs.{needs}
@@ -17,11 +16,11 @@ enum-known-u c = search needs
 
 returns : tie.Need-returns
 unfolding plainAt
-returns c = search (plain, no-plain, refl)
+returns c = search (plain, no-plain)
 
 returns-2 : tie.Need-returns-2
 unfolding plainAt
-returns-2 c = search (plain, no-plain, refl)
+returns-2 c = search (plain, no-plain)
 
 pub read-unaligned-spec : {M : Type 1} → statement M
 read-unaligned-spec =

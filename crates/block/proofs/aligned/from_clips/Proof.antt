@@ -1,7 +1,6 @@
 -- `block::aligned::from_clips` meets its contract: each step of the definition follows from what was read. Assumes nothing.
-use mathlib.Core.Path.{refl}
-use Rattle.frame.proofs.StepLaws.{when, unless, same, differ}
-use Rattle.block.proofs.Steps.{field-accepted, field-rejected, clipped, unclipped}
+use Rattle.frame.proofs.StepLaws.{steps}
+use Rattle.block.proofs.Steps.{blockSteps}
 use Rattle.block.specs.Aligned.{fromClips}
 use borrow.Author.Needs.{needs}
 use Rattle.block.proofs.aligned.from_clips.Statement.{statement}
@@ -15,7 +14,7 @@ from-edits-requires c κs = search needs
 
 returns : tie.Need-returns
 unfolding fromClips
-returns c = rw (← c .before .none .ensures) (search (when, unless, same, differ, field-accepted, field-rejected, clipped, unclipped, refl))
+returns c = rw (← c .before .none .ensures) (search (steps, blockSteps))
 
 read-clips-requires : tie.Need-read-clips-requires
 read-clips-requires c κs = search needs
@@ -31,11 +30,11 @@ from-soft-requires c κs = search needs
 
 returns-2 : tie.Need-returns-2
 unfolding fromClips
-returns-2 c = search (when, unless, same, differ, field-accepted, field-rejected, clipped, unclipped, refl)
+returns-2 c = search (steps, blockSteps)
 
 returns-3 : tie.Need-returns-3
 unfolding fromClips
-returns-3 c = search (when, unless, same, differ, field-accepted, field-rejected, clipped, unclipped, refl)
+returns-3 c = search (steps, blockSteps)
 
 pub from-clips-spec : {M : Type 1} → statement M
 from-clips-spec =

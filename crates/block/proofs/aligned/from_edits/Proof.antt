@@ -1,7 +1,6 @@
 -- `block::aligned::from_edits` meets its contract: each step of the definition follows from what was read. Assumes nothing.
-use mathlib.Core.Path.{refl}
-use Rattle.frame.proofs.StepLaws.{when, unless, same, differ}
-use Rattle.block.proofs.Steps.{field-accepted, field-rejected, clipped, unclipped}
+use Rattle.frame.proofs.StepLaws.{steps}
+use Rattle.block.proofs.Steps.{blockSteps}
 use Rattle.block.specs.Aligned.{fromEdits}
 use borrow.Author.Needs.{needs}
 use Rattle.block.proofs.aligned.from_edits.Statement.{statement}
@@ -12,7 +11,7 @@ tally-requires c κs = search needs
 
 returns : tie.Need-returns
 unfolding fromEdits
-returns c = search (when, unless, same, differ, field-accepted, field-rejected, clipped, unclipped, refl)
+returns c = search (steps, blockSteps)
 
 read-count-requires : tie.Need-read-count-requires
 read-count-requires c κs = search needs
@@ -28,11 +27,11 @@ tally-requires-2 c κs = search needs
 
 returns-2 : tie.Need-returns-2
 unfolding fromEdits
-returns-2 c = search (when, unless, same, differ, field-accepted, field-rejected, clipped, unclipped, refl)
+returns-2 c = search (steps, blockSteps)
 
 returns-3 : tie.Need-returns-3
 unfolding fromEdits
-returns-3 c = search (when, unless, same, differ, field-accepted, field-rejected, clipped, unclipped, refl)
+returns-3 c = search (steps, blockSteps)
 
 pub from-edits-spec : {M : Type 1} → statement M
 from-edits-spec =

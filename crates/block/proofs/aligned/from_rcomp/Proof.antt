@@ -1,7 +1,6 @@
 -- `block::aligned::from_rcomp` meets its contract: each step of the definition follows from what was read. Assumes nothing.
-use mathlib.Core.Path.{refl}
-use Rattle.frame.proofs.StepLaws.{when, unless, same, differ}
-use Rattle.block.proofs.Steps.{field-accepted, field-rejected, clipped, unclipped}
+use Rattle.frame.proofs.StepLaws.{steps}
+use Rattle.block.proofs.Steps.{blockSteps}
 use Rattle.block.specs.Aligned.{fromRcomp}
 use borrow.Author.Needs.{needs}
 use Rattle.block.proofs.aligned.from_rcomp.Statement.{statement}
@@ -21,11 +20,11 @@ from-clips-requires c κs = search needs
 
 returns : tie.Need-returns
 unfolding fromRcomp
-returns c = search (when, unless, same, differ, field-accepted, field-rejected, clipped, unclipped, refl)
+returns c = search (steps, blockSteps)
 
 returns-2 : tie.Need-returns-2
 unfolding fromRcomp
-returns-2 c = search (when, unless, same, differ, field-accepted, field-rejected, clipped, unclipped, refl)
+returns-2 c = search (steps, blockSteps)
 
 pub from-rcomp-spec : {M : Type 1} → statement M
 from-rcomp-spec =

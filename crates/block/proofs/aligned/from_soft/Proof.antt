@@ -1,7 +1,6 @@
 -- `block::aligned::from_soft` meets its contract: each step of the definition follows from what was read. Assumes nothing.
-use mathlib.Core.Path.{refl}
-use Rattle.frame.proofs.StepLaws.{when, unless, same, differ}
-use Rattle.block.proofs.Steps.{field-accepted, field-rejected, clipped, unclipped}
+use Rattle.frame.proofs.StepLaws.{steps}
+use Rattle.block.proofs.Steps.{blockSteps}
 use Rattle.block.specs.Aligned.{fromSoft}
 use borrow.Author.Needs.{needs}
 use Rattle.block.proofs.aligned.from_soft.Statement.{statement}
@@ -24,11 +23,11 @@ from-edits-requires c κs = search needs
 
 returns : tie.Need-returns
 unfolding fromSoft
-returns c = rw (← c .before .before .before .before .soft .ensures) (search (when, unless, same, differ, field-accepted, field-rejected, clipped, unclipped, refl))
+returns c = rw (← c .before .before .before .before .soft .ensures) (search (steps, blockSteps))
 
 returns-2 : tie.Need-returns-2
 unfolding fromSoft
-returns-2 c = rw (← c .before .before .before .before .before .soft .ensures) (search (when, unless, same, differ, field-accepted, field-rejected, clipped, unclipped, refl))
+returns-2 c = rw (← c .before .before .before .before .before .soft .ensures) (search (steps, blockSteps))
 
 pub from-soft-spec : {M : Type 1} → statement M
 from-soft-spec =

@@ -1,7 +1,6 @@
 -- `block::aligned::read_block` meets its contract: each step of the definition follows from what was read. Assumes nothing.
-use mathlib.Core.Path.{refl}
-use Rattle.frame.proofs.StepLaws.{when, unless, same, differ}
-use Rattle.block.proofs.Steps.{field-accepted, field-rejected, clipped, unclipped}
+use Rattle.frame.proofs.StepLaws.{steps}
+use Rattle.block.proofs.Steps.{blockSteps}
 use Rattle.block.specs.Aligned.{alignedAt}
 use borrow.Author.Needs.{needs}
 use Rattle.block.proofs.aligned.read_block.Statement.{statement}
@@ -21,11 +20,11 @@ from-rcomp-requires c κs = search needs
 
 returns : tie.Need-returns
 unfolding alignedAt
-returns c = search (when, unless, same, differ, field-accepted, field-rejected, clipped, unclipped, refl)
+returns c = search (steps, blockSteps)
 
 returns-2 : tie.Need-returns-2
 unfolding alignedAt
-returns-2 c = search (when, unless, same, differ, field-accepted, field-rejected, clipped, unclipped, refl)
+returns-2 c = search (steps, blockSteps)
 
 pub read-block-spec : {M : Type 1} → statement M
 read-block-spec =

@@ -2,9 +2,9 @@ use Prim.Native.Nat.{_-_, _^_}
 use denote.Ref.{now}
 use Rattle.frame.proofs.HexLaws.{length-unhex}
 -- `block::aligned::tally` meets its contract: what the check of the edits answered picks the case. Assumes nothing.
-use mathlib.Core.Path.{refl, sym, _∙_}
+use mathlib.Core.Path.{sym, _∙_}
 use native.Mathlib.Omega.{arith}
-use Rattle.block.proofs.Steps.{edited, unedited}
+use Rattle.block.proofs.Steps.{blockSteps}
 use Rattle.edits.proofs.EditLaws.{edits-bytes}
 use Rattle.ecigar.proofs.OperationLaws.{ClipsFit, clips-most, text-most}
 use Rattle.ecigar.proofs.CheckLaws.{checked-fine, behind-fits}
@@ -52,11 +52,11 @@ add-t20 c = let p = c .before .before .before .before .before .before .before .b
 
 returns : tie.Need-returns
 unfolding editsTallied
-returns c = rw (← c .before .before .before .before .mapped-length .ensures) (search (edited, unedited, refl))
+returns c = rw (← c .before .before .before .before .mapped-length .ensures) (search blockSteps)
 
 returns-2 : tie.Need-returns-2
 unfolding editsTallied
-returns-2 c = rw (← c .before .before .before .before .before .before .mapped-length .ensures, c .before .clips-len .ensures, c .width .ensures) (search (edited, unedited, refl))
+returns-2 c = rw (← c .before .before .before .before .before .before .mapped-length .ensures, c .before .clips-len .ensures, c .width .ensures) (search blockSteps)
 
 pub tally-spec : {M : Type 1} → statement M
 tally-spec =

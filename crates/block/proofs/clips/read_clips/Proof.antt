@@ -1,5 +1,4 @@
 -- `block::clips::read_clips` meets its contract: each step of the definition follows from what was read. Assumes nothing.
-use mathlib.Core.Path.{refl}
 use native.Mathlib.Omega.{arith}
 use Rattle.frame.proofs.FieldLaws.{value-fits}
 use Rattle.frame.proofs.StepLaws.{value, ended}
@@ -19,7 +18,7 @@ enum-told c = search needs
 
 returns : tie.Need-returns
 unfolding clipsAt
-returns c = search (value, ended, refl)
+returns c = search (value, ended)
 
 read-u16-requires-2 : tie.Need-read-u16-requires-2
 read-u16-requires-2 c κs = search needs
@@ -32,7 +31,7 @@ enum-told-2 c = search needs
 
 returns-2 : tie.Need-returns-2
 unfolding clipsAt
-returns-2 c = search (value, ended, refl)
+returns-2 c = search (value, ended)
 
 read-u16-requires-3 : tie.Need-read-u16-requires-3
 read-u16-requires-3 c κs = search needs
@@ -45,7 +44,7 @@ enum-told-3 c = search needs
 
 returns-3 : tie.Need-returns-3
 unfolding clipsAt
-returns-3 c = search (value, ended, refl)
+returns-3 c = search (value, ended)
 
 read-u16-requires-4 : tie.Need-read-u16-requires-4
 read-u16-requires-4 c κs = search needs
@@ -58,7 +57,7 @@ enum-told-4 c = search needs
 
 returns-4 : tie.Need-returns-4
 unfolding clipsAt
-returns-4 c = search (value, ended, refl)
+returns-4 c = search (value, ended)
 
 cast-t17 : tie.Need-cast-t17
 cast-t17 c =
@@ -86,7 +85,7 @@ within-requires c κs = search needs
 
 returns-5 : tie.Need-returns-5
 unfolding clipsAt
-returns-5 c = search (value, ended, refl)
+returns-5 c = search (value, ended)
 
 pub read-clips-spec : {M : Type 1} → statement M
 read-clips-spec =

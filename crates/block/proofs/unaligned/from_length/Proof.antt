@@ -1,6 +1,5 @@
 -- `block::unaligned::from_length` meets its contract: each step of the definition follows from what was read. Assumes nothing.
-use mathlib.Core.Path.{refl}
-use Rattle.block.proofs.Steps.{field-accepted, field-rejected}
+use Rattle.block.proofs.Steps.{blockSteps}
 use Rattle.block.specs.Unaligned.{fromLength}
 use borrow.Author.Needs.{needs}
 use Rattle.block.proofs.unaligned.from_length.Statement.{statement}
@@ -17,11 +16,11 @@ enum-known-next c = search needs
 
 returns : tie.Need-returns
 unfolding fromLength
-returns c = search (field-accepted, field-rejected, refl)
+returns c = search blockSteps
 
 returns-2 : tie.Need-returns-2
 unfolding fromLength
-returns-2 c = search (field-accepted, field-rejected, refl)
+returns-2 c = search blockSteps
 
 pub from-length-spec : {M : Type 1} → statement M
 from-length-spec =

@@ -1,6 +1,5 @@
 -- `block::unaligned::read` meets its contract: each step of the definition follows from what was read. Assumes nothing.
-use mathlib.Core.Path.{refl}
-use Rattle.block.proofs.Steps.{field-accepted, field-rejected}
+use Rattle.block.proofs.Steps.{blockSteps}
 use Rattle.block.specs.Unaligned.{unalignedAt}
 use borrow.Author.Needs.{needs}
 use Rattle.block.proofs.unaligned.read.Statement.{statement}
@@ -20,11 +19,11 @@ from-length-requires c κs = search needs
 
 returns : tie.Need-returns
 unfolding unalignedAt
-returns c = search (field-accepted, field-rejected, refl)
+returns c = search blockSteps
 
 returns-2 : tie.Need-returns-2
 unfolding unalignedAt
-returns-2 c = search (field-accepted, field-rejected, refl)
+returns-2 c = search blockSteps
 
 pub read-spec : {M : Type 1} → statement M
 read-spec =

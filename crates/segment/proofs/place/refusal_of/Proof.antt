@@ -1,5 +1,4 @@
 -- `segment::place::refusal_of` meets its contract: the tests on the way pick the case. Assumes nothing.
-use mathlib.Core.Path.{refl}
 use Rattle.frame.proofs.StepLaws.{when, unless}
 use Rattle.segment.specs.Place.{placeRefusal}
 use borrow.Author.Needs.{needs}
@@ -14,11 +13,11 @@ cast-end c = search needs
 
 returns : tie.Need-returns
 unfolding placeRefusal
-returns c = search (when, unless, refl)
+returns c = search (when, unless)
 
 returns-2 : tie.Need-returns-2
 unfolding placeRefusal
-returns-2 c = search (when, unless, refl)
+returns-2 c = search (when, unless)
 
 add-if3 : tie.Need-add-if3
 add-if3 c = search needs
@@ -28,11 +27,11 @@ add-if3-2 c = search needs
 
 returns-3 : tie.Need-returns-3
 unfolding placeRefusal
-returns-3 c = search (when, unless, refl)
+returns-3 c = search (when, unless)
 
 returns-4 : tie.Need-returns-4
 unfolding placeRefusal
-returns-4 c = search (when, unless, refl)
+returns-4 c = search (when, unless)
 
 pub refusal-of-spec : {M : Type 1} → statement M
 refusal-of-spec =
