@@ -7,13 +7,14 @@ use mathlib.Core.List.{List, [], _∷_}
 use Prim.Native.Nat.{ℕ, zero, suc, _+_, _*_, _/_, _%_, _<_, _≤_}
 use native.Mathlib.Nat.{zero-add}
 use native.Mathlib.Omega.{arith}
-use borrow.Author.Tests.{ltb-true, leb-true, leb-false}
+use borrow.Author.Tests.{ne-eqb, ltb-true, ltb-false, leb-true, leb-false}
 use lib.Dec.{eqb, ltb, leb, lit<}
-use lib.ListN.{length, getD, List·getD-eq-default}
+use lib.ListN.{length, getD, set, List·getD-eq-default}
 use Rattle.frame.specs.Hex.{glyph, hexOf}
+use Rattle.writing.specs.Lay.{lay, Laid}
 use Rattle.frame.proofs.Tests.{by-test, false-true, one-of}
 use Rattle.alphabet.specs.Table35.{S₀, S₁, lettersOf, letterN, sizeOf, letterOf, codeOfN}
-use Rattle.alphabet.specs.code.Digits.{lettersFrom, digitsOf}
+use Rattle.alphabet.specs.code.Digits.{lettersFrom, digitsOf, placeOf, bothDigits}
 
 -- ---- a rule of a table, from one test over it
 
@@ -111,20 +112,68 @@ from-at alphabet i (suc n) (suc k) h =
     let e : i + suc k ≡ i + 1 + k = omega arith in
     rw e (from-at alphabet (i + 1) n k (omega arith))
 
-pub digits-high : (alphabet index : ℕ) → index ≤ 16 → getD (digitsOf alphabet) (2 * index) 0 ≡ glyph (letterOf alphabet index / 16)
+digits-high : (alphabet index : ℕ) → index ≤ 16 → getD (digitsOf alphabet) (2 * index) 0 ≡ glyph (letterOf alphabet index / 16)
 unfolding digitsOf
 digits-high alphabet index h =
     hexOf-high (lettersFrom alphabet 0 17) index (rw length-from (omega arith))
     ∙ rw (from-at alphabet 0 17 index (omega arith), zero-add)
 
-pub digits-low : (alphabet index : ℕ) → index ≤ 16 → getD (digitsOf alphabet) (2 * index + 1) 0 ≡ glyph (letterOf alphabet index % 16)
+digits-low : (alphabet index : ℕ) → index ≤ 16 → getD (digitsOf alphabet) (2 * index + 1) 0 ≡ glyph (letterOf alphabet index % 16)
 unfolding digitsOf
 digits-low alphabet index h =
     hexOf-low (lettersFrom alphabet 0 17) index (rw length-from (omega arith))
     ∙ rw (from-at alphabet 0 17 index (omega arith), zero-add)
 
 -- 16 stands for every index behind it
-pub letter-past : (alphabet index : ℕ) → 16 ≤ index → letterOf alphabet index ≡ letterOf alphabet 16
+letter-past : (alphabet index : ℕ) → 16 ≤ index → letterOf alphabet index ≡ letterOf alphabet 16
 letter-past alphabet index h =
     let past : (k : ℕ) → 16 ≤ k → letterOf alphabet k ≡ 0 = λ k g. outside alphabet k (⊎-elim (λ e. omega arith) (λ e. omega arith) (size-two alphabet)) in
     past index h ∙ sym (past 16 (omega arith))
+
+-- ---- a letter, from the table of digits
+
+pub place-most : (symbol : ℕ) → placeOf symbol ≤ 16
+unfolding placeOf
+place-most symbol = by-test (ltb symbol 16) (λ t. rw t (omega (arith, ltb-true symbol 16 t))) (λ t. rw t (omega arith))
+
+letter-place : (alphabet symbol : ℕ) → letterOf alphabet (placeOf symbol) ≡ letterOf alphabet symbol
+unfolding placeOf
+letter-place alphabet symbol = by-test (ltb symbol 16) (λ t. rw t) (λ t. rw t (sym (letter-past alphabet symbol (ltb-false symbol 16 t))))
+
+pub laid-letter : {a b t : List ℕ} {at r : ℕ} (alphabet symbol : ℕ) → t ≡ digitsOf alphabet → r ≡ at + 2
+    → b ≡ set (set a at (getD t (2 * placeOf symbol) 0)) (at + 1) (getD t (2 * placeOf symbol + 1) 0) → Laid a b at r (letterOf alphabet symbol ∷ [])
+unfolding lay
+laid-letter alphabet symbol e f g =
+    record {
+      to = f;
+      holds = g ∙ rw (e, digits-high alphabet _ (place-most symbol), digits-low alphabet _ (place-most symbol), letter-place);
+    }
+
+-- ---- a letter of alphabet 0, from five tests
+
+pub five-digits : (symbol : ℕ)
+    → 12336 + cond (eqb symbol 0) 260 0 + cond (eqb symbol 1) 772 0 + cond (eqb symbol 2) 1796 0 + cond (eqb symbol 3) 1029 0 + cond (eqb symbol 4) 13572 0 ≡ bothDigits (letterOf 0 symbol)
+unfolding bothDigits letterOf glyph
+five-digits zero = refl
+five-digits (suc zero) = refl
+five-digits (suc (suc zero)) = refl
+five-digits (suc (suc (suc zero))) = refl
+five-digits (suc (suc (suc (suc zero)))) = refl
+five-digits (suc (suc (suc (suc (suc n))))) =
+    let past : (k : ℕ) → k < 5 → eqb (suc (suc (suc (suc (suc n))))) k ≡ false = λ k h. ne-eqb _ k (λ e. omega arith) in
+    rw (past 4 (lit< tt), past 3 (lit< tt), past 2 (lit< tt), past 1 (lit< tt), past 0 (lit< tt))
+
+glyph-small : (n : ℕ) → n < 16 → glyph n < 256
+unfolding glyph
+glyph-small n h = by-test (ltb n 10) (λ t. rw t (omega arith)) (λ t. rw t (omega arith))
+
+-- the low byte is the first digit, the high byte the second
+pub laid-five : {a b : List ℕ} {at r d : ℕ} (symbol : ℕ) → d ≡ bothDigits (letterOf 0 symbol) → r ≡ at + 2
+    → b ≡ set (set a at (d % 256)) (at + 1) (d / 256) → Laid a b at r (letterOf 0 symbol ∷ [])
+unfolding lay bothDigits
+laid-five {d = d} symbol e f g =
+    let l = letterOf 0 symbol in
+    let small = glyph-small (l / 16) (omega (arith, letter-byte 0 symbol)) in
+    let low : d % 256 ≡ glyph (l / 16) = omega arith in
+    let high : d / 256 ≡ glyph (l % 16) = omega arith in
+    record { to = f; holds = g ∙ rw (low, high) }

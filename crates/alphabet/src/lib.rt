@@ -1,13 +1,10 @@
-// The two alphabets of Table 35: the letter of an index.
+// The two alphabets of Table 35: the letter of an index, as its digits.
+pub mod five;
+pub mod letter;
+
 ghost use mathlib.Core.Path.{_≡_};
-ghost use Rattle.alphabet.specs.Table35.{sizeOf, letterOf, codeOfN};
+ghost use Rattle.alphabet.specs.Table35.{sizeOf, codeOfN};
 ghost use Rattle.alphabet.specs.code.Digits.{tableDigits, digitsOf};
-
-// Alphabet 0.
-const FIVE: [u8; 5] = *b"ACGTN";
-
-// Alphabet 1.
-const SIXTEEN: [u8; 16] = *b"ACGTRYSWKMBDHVN-";
 
 // The digits of a table: two a letter, from index 0 to index 16, which is outside both alphabets.
 pub const DIGITS: usize = 34;
@@ -19,7 +16,7 @@ fn tied() -> usize
     DIGITS
 }
 
-// The same letters as digits; 00 for an index outside the alphabet.
+// The letters of alphabet 0 as digits, and those of alphabet 1; 00 for an index outside the alphabet.
 const FIVE_DIGITS: [u8; DIGITS] = *b"414347544e000000000000000000000000";
 
 const SIXTEEN_DIGITS: [u8; DIGITS] = *b"41434754525953574b4d424448564e2d00";
@@ -29,23 +26,6 @@ pub fn size(alphabet: u32) -> u32
     ensures { λ r. ⌜ r ≡ sizeOf alphabet ⌝ }
 {
     if alphabet == 0 { 5 } else { 16 }
-}
-
-// The letter of an index; 0 for an index outside the alphabet.
-pub fn letter(alphabet: u32, index: u32) -> u8
-    ensures { λ r. ⌜ r ≡ letterOf alphabet index ⌝ }
-{
-    let at = index as usize;
-    if alphabet == 0 {
-        if at < 5 {
-            return FIVE[at];
-        }
-        return 0;
-    }
-    if at < 16 {
-        return SIXTEEN[at];
-    }
-    0
 }
 
 // The digits of each letter, for a writer of many: it takes them once, and a letter is then two places of the table.

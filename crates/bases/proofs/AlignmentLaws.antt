@@ -3,6 +3,7 @@
 use Prim.Native.Nat.{ℕ, zero, suc, _+_, _-_, _<_, _≤_}
 use mathlib.Core.Path.{_≡_, refl, ap, _∙_}
 use mathlib.Core.Logic.{_⊎_, inl, inr, ⊎-elim}
+use mathlib.Core.Bool.{cond}
 use mathlib.Core.List.{List, [], _∷_, _++_}
 use native.Mathlib.Omega.{arith}
 use native.Mathlib.Nat.{add-zero}
@@ -14,13 +15,13 @@ use Rattle.refusal.specs.Numbers.{fine, firstRefusal}
 use Rattle.frame.proofs.HexLaws.{by-test}
 use Rattle.alphabet.specs.Table35.{sizeOf, letterOf}
 use Rattle.edits.specs.declared.edit.Edit.{Edit}
-use Rattle.edits.specs.Edits.{deletion, nextOffset, Sound, takenFrom}
+use Rattle.edits.specs.Edits.{insertion, deletion, nextOffset, Sound, takenFrom}
 use Rattle.edits.proofs.EditLaws.{sound-head, sound-tail, next-deletion, next-other, next-least, next-most, symbol-inside, sound-accepted}
 use Rattle.bases.specs.declared.places.Places.{Places}
 use Rattle.bases.specs.Reference.{baseAt, baseRefusal, matchedBases, matchRefusal}
 use Rattle.bases.specs.Bases.{R, r, pastEdit, editBases, basesFrom, refusalFrom}
 use Rattle.bases.specs.Alignment.{UnderMatch, OfEdit}
-use Rattle.bases.proofs.ReferenceLaws.{length-matched}
+use Rattle.bases.proofs.ReferenceLaws.{length-matched, match-add}
 use Rattle.bases.proofs.BasesLaws.{past-read, past-reference, edit-none, edit-letter}
 
 -- ---- an edit's bases, with the match before it
@@ -210,6 +211,20 @@ module _ (alphabet : ℕ) (reference : List ℕ) (first mapped : ℕ) where
       (λ w. rw (w .at) (match-fine alphabet reference first (R p) (e .offset - r p) (i - r p) (first-left (matchRefusal alphabet reference first (R p) (e .offset - r p)) (refusalFrom alphabet reference first mapped (pastEdit e p) es) z) (omega (arith, w .from, w .until))))
       (λ w. under-fine (pastEdit e p) es i position (first-right (matchRefusal alphabet reference first (R p) (e .offset - r p)) (refusalFrom alphabet reference first mapped (pastEdit e p) es) z) w)
       u
+
+  -- where no position that the edits take is refused, none under a match is
+  pub taken-fine : (p : Places) (es : List Edit) → matchRefusal alphabet reference first (R p) (takenFrom mapped (r p) es) ≡ fine → refusalFrom alphabet reference first mapped p es ≡ fine
+  unfolding refusalFrom takenFrom
+  taken-fine p [] z = z
+  taken-fine p (e ∷ es) z =
+      let n = e .offset - r p in
+      let k : ℕ = cond (eqb (e .kind) insertion) 0 1 in
+      let whole = rw match-add at z in
+      let before = rw match-add at (first-left (matchRefusal alphabet reference first (R p) (n + k)) _ whole) in
+      let behind = first-right (matchRefusal alphabet reference first (R p) (n + k)) _ whole in
+      let q : R p + (n + k) ≡ R (pastEdit e p) = omega (arith, past-reference e p) in
+      let a = first-left (matchRefusal alphabet reference first (R p) n) _ before in
+      rw (a, taken-fine (pastEdit e p) es (rw (past-read e p, ← q) behind))
 
 -- an accepted edit's symbol is inside the alphabet
 pub edit-symbol : (mapped symbols next : ℕ) (es : List Edit) (i : ℕ) (d : Edit) → Sound mapped symbols next es → OfEdit es i d → d .symbol < symbols

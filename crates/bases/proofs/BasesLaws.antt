@@ -1,30 +1,30 @@
 -- The laws of both pointers and of the bases they bring.
 -- Assumes nothing.
-use Prim.Native.Nat.{ℕ, zero, suc, _+_, _-_, _*_, _/_, _^_, _<_, _≤_}
+use Prim.Native.Nat.{ℕ, _+_, _-_, _*_, _^_, _<_, _≤_}
 use mathlib.Core.Path.{_≡_, refl, ap, _∙_}
 use mathlib.Core.Bool.{cond}
 use mathlib.Core.List.{List, [], _∷_, _++_, append-nil}
 use native.Mathlib.Omega.{arith}
-use native.Mathlib.Nat.{add-zero}
-use borrow.Author.Tests.{ltb-true, ltb-false, eq-eqb, ne-eqb, eqb-true}
-use lib.Dec.{ltb, eqb}
-use lib.ListN.{length, getD, length-append, List·getD-eq-default}
+use borrow.Author.Tests.{eq-eqb, ne-eqb, eqb-true}
+use lib.Dec.{eqb}
+use lib.ListN.{length, length-append}
 use Rattle.refusal.specs.Numbers.{fine}
-use Rattle.frame.specs.Hex.{unhex}
 use Rattle.writing.specs.Lay.{Laid}
-use Rattle.frame.proofs.HexLaws.{by-test, length-unhex}
+use Rattle.frame.proofs.HexLaws.{by-test}
 use Rattle.writing.proofs.LayLaws.{Rest, rest-room, laid-then, laid-room, length-laid}
 use Rattle.alphabet.specs.Table35.{letterOf}
 use Rattle.edits.specs.declared.edit.Edit.{Edit}
 use Rattle.edits.specs.declared.Block.{Block}
+use Rattle.edits.specs.declared.Run.{Run}
 use Rattle.edits.specs.Lengths.{mappedLength}
+use Rattle.edits.specs.code.Runs.{runOf}
 use Rattle.edits.specs.Edits.{insertion, deletion, widthOf, editAt, editsAt, nextOffset}
-use Rattle.edits.proofs.EditLaws.{edits-on, edits-none, width-most, edits-past}
+use Rattle.edits.proofs.EditLaws.{edits-on, edits-none, framed-on}
 use Rattle.bases.specs.declared.places.Places.{Places}
 use Rattle.bases.specs.Reference.{matchedBases, matchRefusal}
-use Rattle.bases.specs.Bases.{R, r, beginning, pastEdit, editBases, basesFrom, refusalFrom, lettersAt, mappedBases, referenceRefusal, basesText}
-use Rattle.bases.specs.code.Helpers.{least, farthest}
-use Rattle.bases.proofs.ReferenceLaws.{least-left, least-right, least-most, length-letters}
+use Rattle.bases.specs.Bases.{R, r, beginning, pastEdit, editBases, basesFrom, refusalFrom, lettersAt, mappedBases, basesText}
+use Rattle.bases.specs.code.Helpers.{farthest}
+use Rattle.bases.proofs.ReferenceLaws.{length-letters}
 
 -- ---- both pointers behind an edit
 
@@ -45,29 +45,6 @@ pub past-most : (e : Edit) (p q : Places) → q ≡ pastEdit e p → R q ≤ R p
 past-most e p q h =
     let m = ap (λ (x : Places). R x) h ∙ past-reference e p in
     by-test (eqb (e .kind) insertion) (λ t. let k = rw t at m in omega arith) (λ t. let k = rw t at m in omega arith)
-
--- ---- past the frame's end every edit and every byte reads alike
-
--- a place clipped to the frame reads as the place does
-pub edits-clipped : (class alphabet : ℕ) (l : List ℕ) (k at : ℕ) {here : ℕ} → here ≡ least at (length l / 2) → editsAt class alphabet (unhex l) k here ≡ editsAt class alphabet (unhex l) k at
-edits-clipped class alphabet l k at {here} q =
-    by-test (ltb at (length l / 2)) (λ t. rw q (rw (least-left at (length l / 2) (omega (arith, ltb-true at (length l / 2) t)))))
-    (λ t. edits-past class alphabet l k here at (omega (arith, q ∙ least-right at (length l / 2) (ltb-false at (length l / 2) t))) (ltb-false at (length l / 2) t))
-
-pub letters-past : (alphabet : ℕ) (l : List ℕ) (k a b : ℕ) → length l / 2 ≤ a → length l / 2 ≤ b → lettersAt alphabet (unhex l) a k ≡ lettersAt alphabet (unhex l) b k
-unfolding lettersAt
-letters-past alphabet l zero a b h j = refl
-letters-past alphabet l (suc k) a b h j =
-    let n = length-unhex l in
-    let x : getD (unhex l) a 0 ≡ 0 = List·getD-eq-default (unhex l) 0 (omega arith) in
-    let y : getD (unhex l) b 0 ≡ 0 = List·getD-eq-default (unhex l) 0 (omega arith) in
-    rw (x, y, letters-past alphabet l k (a + 1) (b + 1) (omega arith) (omega arith))
-
--- as long as the place is clipped, so is each place behind it
-pub letters-clipped : (alphabet : ℕ) (l : List ℕ) (n at k : ℕ) {here : ℕ} → here ≡ least at (length l / 2) → lettersAt alphabet (unhex l) (here + k) n ≡ lettersAt alphabet (unhex l) (at + k) n
-letters-clipped alphabet l n at k {here} q =
-    by-test (ltb at (length l / 2)) (λ t. rw q (rw (least-left at (length l / 2) (omega (arith, ltb-true at (length l / 2) t)))))
-    (λ t. letters-past alphabet l n (here + k) (at + k) (omega (arith, q ∙ least-right at (length l / 2) (ltb-false at (length l / 2) t))) (omega (arith, ltb-false at (length l / 2) t)))
 
 -- ---- an edit's own letter
 
@@ -124,69 +101,61 @@ module _ (class alphabet : ℕ) (frame reference : List ℕ) (first mapped : ℕ
   unfolding refusalFrom
   refusal-end h = rw (edits-none class alphabet frame k at h)
 
--- where both pointers stand at the beginning, and the place is clipped to the frame
-module _ (class alphabet : ℕ) (l reference : List ℕ) (first position mapped count place : ℕ) {p : Places} {at : ℕ} (q : p ≡ beginning position) (h : at ≡ least place (length l / 2)) where
-  pub bases-start : basesFrom alphabet reference first mapped p (editsAt class alphabet (unhex l) count at) ≡ mappedBases class alphabet (unhex l) reference first position mapped count place
-  bases-start = rw (q, edits-clipped class alphabet l count place h)
-
-  pub refusal-start : refusalFrom alphabet reference first mapped p (editsAt class alphabet (unhex l) count at) ≡ referenceRefusal class alphabet (unhex l) reference first position mapped count place
-  refusal-start = rw (q, edits-clipped class alphabet l count place h)
-
--- ---- how far a walk over the edits comes: pointer R and the place in the frame stay within what 64 bits hold
+-- ---- how far a walk over the edits comes: pointer R stays within what 64 bits hold, and the place within the frame
 
 -- one more than the largest offset, which has 16 bits
 abbrev pub offsets : ℕ
 offsets = 2 ^ 16
 
-pub record BasesWalk (bytes position count : ℕ) (p : Places) (left at : ℕ) : Type 0 where
-  pub less : left ≤ count
-  pub reference : R p + offsets * left ≤ position + offsets * count
-  pub place : at + 4 * left ≤ bytes + 4 * count
-
-pub walk-start : (bytes position count place : ℕ) {p : Places} {at : ℕ} → p ≡ beginning position → at ≡ least place bytes → BasesWalk bytes position count p count at
-walk-start bytes position count place q h =
-    record { less = omega arith; reference = omega (arith, ap (λ (x : Places). R x) q); place = omega (arith, h, least-most place bytes) }
-
-pub walk-on : (bytes position count : ℕ) (p q : Places) (left at class : ℕ) {step : ℕ} (e : Edit) → BasesWalk bytes position count p left at → 0 < left → e .offset < offsets → q ≡ pastEdit e p → step ≡ widthOf class → BasesWalk bytes position count q (left - 1) (at + step)
-walk-on bytes position count p q left at class e w h o m s =
-    record { less = omega (arith, w .less); reference = omega (arith, w .reference, past-most e p q m); place = omega (arith, w .place, width-most class) }
-
-pub walk-room : (class : ℕ) {bytes position count : ℕ} {p : Places} {left at step : ℕ} → BasesWalk bytes position count p left at → 0 < left → step ≡ widthOf class → at + step ≤ bytes + 4 * count
-walk-room class w h s = omega (arith, w .place, width-most class)
+pub record BasesWalk (class : ℕ) (frame : List ℕ) (p : Places) (left at : ℕ) : Type 0 where
+  pub reference : R p + offsets * left ≤ farthest
+  pub framed : at + left * widthOf class ≤ length frame
 
 -- pointer R starts within 32 bits, and there are fewer than 2 ^ 32 edits
-pub walk-near : {bytes position count : ℕ} {p : Places} {left at : ℕ} → BasesWalk bytes position count p left at → position < 2 ^ 32 → count < 2 ^ 32 → R p ≤ farthest
-walk-near w h k = omega (arith, w .reference)
+pub walk-start : (class : ℕ) (frame : List ℕ) (position count at : ℕ) {p : Places} → p ≡ beginning position → position < 2 ^ 32 → count < 2 ^ 32 → at + count * widthOf class ≤ length frame → BasesWalk class frame p count at
+walk-start class frame position count at q h k f = record { reference = omega (arith, ap (λ (x : Places). R x) q); framed = f }
 
--- ---- the whole read, piece by piece. Its first soft-clipped base stands at a place that is clipped to the frame
+module _ {class : ℕ} {frame : List ℕ} {p : Places} {left at : ℕ} (w : BasesWalk class frame p left at) where
+  pub walk-near : R p ≤ farthest
+  walk-near = omega (arith, w .reference)
+
+  pub walk-room : {step : ℕ} → 0 < left → step ≡ widthOf class → at + step ≤ length frame
+  walk-room h s = framed-on frame class at left _ (w .framed) s h .0
+
+  pub walk-on : (q : Places) {step : ℕ} (e : Edit) → 0 < left → e .offset < offsets → q ≡ pastEdit e p → step ≡ widthOf class → BasesWalk class frame q (left - 1) (at + step)
+  walk-on q e h o m s = record { reference = omega (arith, w .reference, past-most e p q m); framed = framed-on frame class at left _ (w .framed) s h .1 }
+
+-- ---- the whole read, piece by piece
 
 pub length-basesText : (class alphabet : ℕ) (frame reference : List ℕ) (first position : ℕ) (s : Block) → length (basesText class alphabet frame reference first position s)
     ≡ s .clips .«left_soft» + length (mappedBases class alphabet frame reference first position (mappedLength (s .length) (s .clips)) (s .edits) (s .«edits_at»)) + s .clips .«right_soft»
 unfolding basesText
 length-basesText class alphabet frame reference first position s = simp (length-append, length-letters)
 
-module _ (class alphabet : ℕ) (l reference : List ℕ) (first position : ℕ) (s : Block) where
-  module _ {here mapped : ℕ} (q : here ≡ least (s .«soft_at») (length l / 2)) (m : mapped ≡ mappedLength (s .length) (s .clips)) where
-    pub text-pieces : (lettersAt alphabet (unhex l) here (here + s .clips .«left_soft» - here) ++ mappedBases class alphabet (unhex l) reference first position mapped (s .edits) (s .«edits_at»))
-        ++ lettersAt alphabet (unhex l) (here + s .clips .«left_soft») (here + s .clips .«left_soft» + s .clips .«right_soft» - (here + s .clips .«left_soft»))
-        ≡ basesText class alphabet (unhex l) reference first position s
-    unfolding basesText
-    text-pieces =
-        let a : here + s .clips .«left_soft» - here ≡ s .clips .«left_soft» = omega arith in
-        let b : here + s .clips .«left_soft» + s .clips .«right_soft» - (here + s .clips .«left_soft») ≡ s .clips .«right_soft» = omega arith in
-        let e = rw (add-zero here, add-zero (s .«soft_at»)) at (letters-clipped alphabet l (s .clips .«left_soft») (s .«soft_at») 0 q) in
-        rw (a, b, m, e, letters-clipped alphabet l (s .clips .«right_soft») (s .«soft_at») (s .clips .«left_soft») q)
+module _ (class alphabet : ℕ) (frame reference : List ℕ) (first position : ℕ) (s : Block) {run : Run} (q : run ≡ runOf s) where
+  pub text-pieces : (lettersAt alphabet frame (s .«soft_at») (s .«soft_at» + s .clips .«left_soft» - s .«soft_at») ++ mappedBases class alphabet frame reference first position (run .mapped) (run .edits) (run .«edits_at»))
+      ++ lettersAt alphabet frame (s .«soft_at» + s .clips .«left_soft») (s .«soft_at» + s .clips .«left_soft» + s .clips .«right_soft» - (s .«soft_at» + s .clips .«left_soft»))
+      ≡ basesText class alphabet frame reference first position s
+  unfolding basesText
+  text-pieces =
+      let a : s .«soft_at» + s .clips .«left_soft» - s .«soft_at» ≡ s .clips .«left_soft» = omega arith in
+      let b : s .«soft_at» + s .clips .«left_soft» + s .clips .«right_soft» - (s .«soft_at» + s .clips .«left_soft») ≡ s .clips .«right_soft» = omega arith in
+      rw (a, b, q)
 
-    module _ (out : List ℕ) (at : ℕ) (room : at + 2 * length (basesText class alphabet (unhex l) reference first position s) ≤ length out) where
-      pub room-left : at + 2 * (here + s .clips .«left_soft» - here) ≤ length out
-      room-left = omega (arith, length-basesText class alphabet (unhex l) reference first position s)
+  module _ (out : List ℕ) (at : ℕ) (room : at + 2 * length (basesText class alphabet frame reference first position s) ≤ length out) where
+    pub room-left : at + 2 * (s .«soft_at» + s .clips .«left_soft» - s .«soft_at») ≤ length out
+    room-left = omega (arith, length-basesText class alphabet frame reference first position s)
 
-      pub room-mapped : {b : List ℕ} {p : ℕ} → Laid out b at p (lettersAt alphabet (unhex l) here (here + s .clips .«left_soft» - here))
-          → p + 2 * length (mappedBases class alphabet (unhex l) reference first position mapped (s .edits) (s .«edits_at»)) ≤ length b
-      room-mapped f =
-          rw m (laid-room (here + s .clips .«left_soft» - here) (2 * length (mappedBases class alphabet (unhex l) reference first position (mappedLength (s .length) (s .clips)) (s .edits) (s .«edits_at»))) f (length-letters alphabet (unhex l) here (here + s .clips .«left_soft» - here)) (omega (arith, length-basesText class alphabet (unhex l) reference first position s)))
+    pub room-mapped : {b : List ℕ} {p : ℕ} → Laid out b at p (lettersAt alphabet frame (s .«soft_at») (s .«soft_at» + s .clips .«left_soft» - s .«soft_at»))
+        → p + 2 * length (mappedBases class alphabet frame reference first position (run .mapped) (run .edits) (run .«edits_at»)) ≤ length b
+    room-mapped f =
+        rw q
+        (laid-room (s .«soft_at» + s .clips .«left_soft» - s .«soft_at») _ f (length-letters alphabet frame (s .«soft_at») _)
+        (omega (arith, length-basesText class alphabet frame reference first position s)))
 
-      pub room-right : {b c : List ℕ} {p z : ℕ} → Laid out b at p (lettersAt alphabet (unhex l) here (here + s .clips .«left_soft» - here))
-          → Laid b c p z (mappedBases class alphabet (unhex l) reference first position mapped (s .edits) (s .«edits_at»))
-          → z + 2 * (here + s .clips .«left_soft» + s .clips .«right_soft» - (here + s .clips .«left_soft»)) ≤ length c
-      room-right f g = omega (arith, length-basesText class alphabet (unhex l) reference first position s, f .to, g .to, length-laid f, length-laid g, ap (λ (k : ℕ). length (mappedBases class alphabet (unhex l) reference first position k (s .edits) (s .«edits_at»))) m, length-letters alphabet (unhex l) here (here + s .clips .«left_soft» - here))
+    pub room-right : {b c : List ℕ} {p z : ℕ} → Laid out b at p (lettersAt alphabet frame (s .«soft_at») (s .«soft_at» + s .clips .«left_soft» - s .«soft_at»))
+        → Laid b c p z (mappedBases class alphabet frame reference first position (run .mapped) (run .edits) (run .«edits_at»))
+        → z + 2 * (s .«soft_at» + s .clips .«left_soft» + s .clips .«right_soft» - (s .«soft_at» + s .clips .«left_soft»)) ≤ length c
+    room-right f g =
+        let m = rw q at (g .to) in
+        omega (arith, length-basesText class alphabet frame reference first position s, f .to, length-laid f, length-laid g, length-letters alphabet frame (s .«soft_at») (s .«soft_at» + s .clips .«left_soft» - s .«soft_at»))

@@ -2,66 +2,39 @@
 -- Assumes nothing.
 use Prim.Native.Nat.{ℕ, zero, suc, _+_, _-_, _*_, _<_, _≤_}
 use mathlib.Core.Path.{_≡_, refl, ap, sym, _∙_}
-use mathlib.Core.Bool.{true, false}
+use mathlib.Core.Bool.{true, false, cond}
 use mathlib.Core.List.{List, [], _∷_, _++_}
 use native.Mathlib.Omega.{arith}
 use native.Mathlib.Nat.{zero-add, suc-add, add-zero}
 use native.Mathlib.Numerals.{add-one}
-use borrow.Author.Tests.{lt-ltb, le-ltb, le-leb, lt-leb, ltb-true, ltb-false, eqb-true}
+use borrow.Author.Tests.{lt-ltb, le-ltb, le-leb, lt-leb, ltb-true, ltb-false, leb-true, leb-false, eqb-true}
 use lib.Dec.{ltb, leb, eqb}
-use lib.ListN.{length, getD, replicate, set, length-replicate}
+use lib.ListN.{length, getD, replicate, length-replicate}
 use Rattle.refusal.specs.Numbers.{fine, symbolOut, firstRefusal}
-use Rattle.writing.specs.Lay.{lay, Laid}
+use Rattle.writing.specs.Lay.{Laid}
 use Rattle.frame.proofs.HexLaws.{by-test}
-use Rattle.writing.proofs.LayLaws.{laid-as, laid-then, laid-room}
+use Rattle.writing.proofs.LayLaws.{laid-as, laid-then, laid-room, Rest, rest-put, rest-room}
 use Rattle.alphabet.specs.Table35.{letterN, letterOf, sizeOf}
-use Rattle.alphabet.specs.code.Digits.{digitsOf}
-use Rattle.alphabet.proofs.AlphabetLaws.{digits-high, digits-low, letter-past}
+use Rattle.alphabet.proofs.AlphabetLaws.{code-of-n-inside}
 use Rattle.bases.specs.Reference.{isLent, baseAt, baseRefusal, matchedBases, matchRefusal}
 use Rattle.bases.specs.Bases.{lettersAt}
-use Rattle.bases.specs.code.Helpers.{least, lentBefore, symbolsRefusal}
+use Rattle.bases.specs.code.Helpers.{least, lentBefore, higher, highest, symbolsRefusal}
 
 -- ---- the smaller of two
 
-pub least-left : (a b : ℕ) → a ≤ b → least a b ≡ a
+least-left : (a b : ℕ) → a ≤ b → least a b ≡ a
 unfolding least
 least-left a b h = by-test (ltb a b) (λ t. rw t) (λ t. rw t (omega (arith, ltb-false a b t)))
 
-pub least-right : (a b : ℕ) → b ≤ a → least a b ≡ b
+least-right : (a b : ℕ) → b ≤ a → least a b ≡ b
 unfolding least
 least-right a b h = rw (le-ltb a b h)
 
-pub least-most : (a b : ℕ) → least a b ≤ b
-unfolding least
-least-most a b = by-test (ltb a b) (λ t. rw t (omega (arith, ltb-true a b t))) (λ t. rw t (omega arith))
-
-pub least-below : {n : ℕ} (a b : ℕ) → n ≡ least a b → n ≤ b
-least-below a b e = rw e (least-most a b)
-
--- ---- a letter, from the table of digits
-
-letter-least : (alphabet symbol : ℕ) → letterOf alphabet (least symbol 16) ≡ letterOf alphabet symbol
-letter-least alphabet symbol =
-    by-test (ltb symbol 16)
-    (λ t. rw (least-left symbol 16 (omega (arith, ltb-true symbol 16 t))))
-    (λ t.
-    let h = ltb-false symbol 16 t in
-    rw (least-right symbol 16 h) (sym (letter-past alphabet symbol h)))
-
-pub laid-letter : {a b t : List ℕ} {at r : ℕ} (alphabet symbol : ℕ) → t ≡ digitsOf alphabet → r ≡ at + 2
-    → b ≡ set (set a at (getD t (2 * least symbol 16) 0)) (at + 1) (getD t (2 * least symbol 16 + 1) 0) → Laid a b at r (letterOf alphabet symbol ∷ [])
-unfolding lay
-laid-letter alphabet symbol e f g =
-    record {
-      to = f;
-      holds = g ∙ rw (e, digits-high alphabet _ (least-most symbol 16), digits-low alphabet _ (least-most symbol 16), letter-least);
-    }
-
 -- ---- padding, one by one
 
-pub padding-on : (n : ℕ) {b : ℕ} → b ≡ letterN → 0 < n → replicate n letterN ≡ (b ∷ []) ++ replicate (n - 1) letterN
-padding-on zero q h = absurd (omega arith)
-padding-on (suc n) q h = let e : suc n - 1 ≡ n = omega arith in rw (e, q)
+pub padding-on : (n : ℕ) → 0 < n → replicate n letterN ≡ (letterN ∷ []) ++ replicate (n - 1) letterN
+padding-on zero h = absurd (omega arith)
+padding-on (suc n) h = let e : suc n - 1 ≡ n = omega arith in rw e
 
 pub padding-end : (n : ℕ) → n ≤ 0 → replicate n letterN ≡ []
 padding-end zero h = refl
@@ -69,9 +42,9 @@ padding-end (suc n) h = absurd (omega arith)
 
 -- ---- symbols from a place on
 
-pub letters-on : (alphabet : ℕ) (s : List ℕ) (i end : ℕ) {y b : ℕ} → y ≡ getD s i 0 → b ≡ letterOf alphabet y → i < end → lettersAt alphabet s i (end - i) ≡ (b ∷ []) ++ lettersAt alphabet s (i + 1) (end - (i + 1))
+letters-on : (alphabet : ℕ) (s : List ℕ) (i end : ℕ) → i < end → lettersAt alphabet s i (end - i) ≡ (letterOf alphabet (getD s i 0) ∷ []) ++ lettersAt alphabet s (i + 1) (end - (i + 1))
 unfolding lettersAt
-letters-on alphabet s i end q f h = let e : end - i ≡ suc (end - (i + 1)) = omega (arith, add-one (end - (i + 1))) in rw (e, ← q, f)
+letters-on alphabet s i end h = let e : end - i ≡ suc (end - (i + 1)) = omega (arith, add-one (end - (i + 1))) in rw e
 
 pub letters-end : (alphabet : ℕ) (s : List ℕ) (i end : ℕ) → end ≤ i → lettersAt alphabet s i (end - i) ≡ []
 unfolding lettersAt
@@ -82,17 +55,41 @@ unfolding lettersAt
 length-letters alphabet s at zero = refl
 length-letters alphabet s at (suc n) = ap suc (length-letters alphabet s (at + 1) n)
 
-pub lent-symbols-on : (alphabet : ℕ) (s : List ℕ) (i end : ℕ) {y size : ℕ} → size ≡ sizeOf alphabet → y ≡ getD s i 0 → i < end → y < size → symbolsRefusal alphabet s i (end - i) ≡ symbolsRefusal alphabet s (i + 1) (end - (i + 1))
-unfolding symbolsRefusal
-lent-symbols-on alphabet s i end z q h l = let e : end - i ≡ suc (end - (i + 1)) = omega (arith, add-one (end - (i + 1))) in rw (e, ← z, ← q, lt-leb _ _ l)
+-- a turn of a loop that lays letters
+module _ (alphabet : ℕ) (s : List ℕ) (start end i : ℕ) {l l₀ : List ℕ} {p p₀ : ℕ} (w : Rest l p (lettersAt alphabet s i (end - i)) l₀ p₀ (lettersAt alphabet s start (end - start))) (more : i < end) where
+  pub letters-room : p₀ + 2 * (end - start) ≤ length l₀ → p + 2 ≤ length l
+  letters-room room = rest-room (_ ∷ []) _ w (letters-on alphabet s i end more) (rw length-letters room)
 
-pub lent-symbols-out : (alphabet : ℕ) (s : List ℕ) (i end : ℕ) {y size : ℕ} → size ≡ sizeOf alphabet → y ≡ getD s i 0 → i < end → size ≤ y → symbolsRefusal alphabet s i (end - i) ≡ symbolOut
-unfolding symbolsRefusal
-lent-symbols-out alphabet s i end z q h l = let e : end - i ≡ suc (end - (i + 1)) = omega (arith, add-one (end - (i + 1))) in rw (e, ← z, ← q, le-leb _ _ l)
+  pub letters-put : {m : List ℕ} {q : ℕ} → Laid l m p q (letterOf alphabet (getD s i 0) ∷ []) → Rest m q (lettersAt alphabet s (i + 1) (end - (i + 1))) l₀ p₀ (lettersAt alphabet s start (end - start))
+  letters-put f = rest-put w (letters-on alphabet s i end more) f
 
-pub lent-symbols-end : (alphabet : ℕ) (s : List ℕ) (i end : ℕ) → end ≤ i → symbolsRefusal alphabet s i (end - i) ≡ fine
-unfolding symbolsRefusal
-lent-symbols-end alphabet s i end h = let e : end - i ≡ 0 = omega arith in rw e
+-- ---- the highest of symbols, and refusal 10 of them
+
+pub highest-on : (most : ℕ) (s : List ℕ) (i end : ℕ) {y : ℕ} → y ≡ higher most (getD s i 0) → i < end → highest most s i (end - i) ≡ highest y s (i + 1) (end - (i + 1))
+unfolding highest
+highest-on most s i end q h = let e : end - i ≡ suc (end - (i + 1)) = omega (arith, add-one (end - (i + 1))) in rw (e, q)
+
+pub highest-end : (most : ℕ) (s : List ℕ) (i end : ℕ) → end ≤ i → highest most s i (end - i) ≡ most
+unfolding highest
+highest-end most s i end h = let e : end - i ≡ 0 = omega arith in rw e
+
+-- one of two is outside where the higher is
+higher-out : (size a b n : ℕ) → cond (leb size (higher a b)) symbolOut n ≡ cond (leb size a) symbolOut (cond (leb size b) symbolOut n)
+unfolding higher
+higher-out size a b n =
+    by-test (ltb a b)
+    (λ t. by-test (leb size a) (λ u. simp (t, u, le-leb size b (omega (arith, ltb-true a b t, leb-true size a u)))) (λ u. simp (t, u)))
+    (λ t. by-test (leb size a) (λ u. simp (t, u)) (λ u. simp (t, u, lt-leb size b (omega (arith, ltb-false a b t, leb-false size a u)))))
+
+highest-out : (alphabet most : ℕ) (s : List ℕ) (at n : ℕ) → cond (leb (sizeOf alphabet) (highest most s at n)) symbolOut fine ≡ cond (leb (sizeOf alphabet) most) symbolOut (symbolsRefusal alphabet s at n)
+unfolding highest symbolsRefusal
+highest-out alphabet most s at zero = refl
+highest-out alphabet most s at (suc n) = highest-out alphabet (higher most (getD s at 0)) s (at + 1) n ∙ higher-out (sizeOf alphabet) most (getD s at 0) (symbolsRefusal alphabet s (at + 1) n)
+
+-- one of the symbols is outside the alphabet where the highest is
+pub symbols-highest : (alphabet : ℕ) (s : List ℕ) (at n : ℕ) → symbolsRefusal alphabet s at n ≡ cond (leb (sizeOf alphabet) (highest 0 s at n)) symbolOut fine
+symbols-highest alphabet s at n =
+    rw (highest-out alphabet 0 s at n, lt-leb (sizeOf alphabet) 0 (omega (arith, code-of-n-inside alphabet)))
 
 -- ---- the first of two refusals
 

@@ -4,7 +4,12 @@ use mathlib.Core.Path.{_≡_}
 use mathlib.Core.List.{List}
 use Prim.Native.Nat.{ℕ}
 use Rattle.frame.proofs.Unique.{once}
+use Rattle.bases.specs.Reference.{matchRefusal}
 use Rattle.bases.specs.Bases.{referenceRefusal}
+
+pub check-positions-once : (alphabet : ℕ) (reference : List ℕ) (first position n : ℕ) {x y : ℕ}
+    → x ≡ matchRefusal alphabet reference first position n → y ≡ matchRefusal alphabet reference first position n → x ≡ y
+check-positions-once alphabet reference first position n p q = once p q
 
 pub check-reference-once : (class alphabet : ℕ) (frame reference : List ℕ) (first position mapped count place : ℕ) {x y : ℕ}
     → x ≡ referenceRefusal class alphabet frame reference first position mapped count place → y ≡ referenceRefusal class alphabet frame reference first position mapped count place → x ≡ y

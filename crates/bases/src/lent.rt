@@ -1,14 +1,15 @@
 // The lent reference under a match: clipped once to what is lent, and N before and behind it (10.2.2, Figure 5).
+use crate::letters::put_letters;
 use crate::places::Places;
 use writing::lay::put_byte;
 ghost use mathlib.Core.Path.{_≡_};
-ghost use Prim.Native.Nat.{_+_, _-_, _*_, _≤_};
-ghost use lib.ListN.{length, getD, replicate, set};
+ghost use Prim.Native.Nat.{_+_, _-_, _*_, _^_, _<_, _≤_};
+ghost use lib.ListN.{length, replicate};
 ghost use Rattle.writing.specs.Lay.{Laid};
 ghost use Rattle.alphabet.specs.Table35.{letterN};
 ghost use Rattle.bases.specs.Reference.{matchedBases, matchRefusal};
-ghost use Rattle.bases.specs.Bases.{R, r, lettersAt};
-ghost use Rattle.bases.specs.code.Helpers.{least as leastOf, lentBefore, symbolsRefusal, farthest};
+ghost use Rattle.bases.specs.Bases.{R, r};
+ghost use Rattle.bases.specs.code.Helpers.{least as leastOf, higher as higherOf, highest as highestOf, lentBefore, symbolsRefusal, farthest};
 
 fn wide(b: u8) -> u32
     ensures { λ n. ⌜ n ≡ b ⌝ }
@@ -37,20 +38,46 @@ fn lent_before(lent: usize, first: u32, position: u64) -> usize
     least(between(first as u64, position), lent as u64) as usize
 }
 
+// The higher of two symbols.
+fn higher(a: u8, b: u8) -> u8
+    ensures { λ n. ⌜ n ≡ higherOf a b ⌝ }
+{
+    if a < b { b } else { a }
+}
+
+// The highest symbol from `start` to `end`. Every one is looked at, with no way out before the last, so that many are looked at at once.
+fn highest(symbols: &[u8], start: usize, end: usize) -> u8
+    requires { ⌜ end ≤ length (now symbols) ⌝ }
+    ensures { λ n. ⌜ n ≡ highestOf 0 (now (symbols .entry)) start (end - start) ⌝ }
+{
+    let mut most: u8 = 0;
+    let mut i = start;
+    while i < end {
+        most = higher(most, symbols[i]);
+        i += 1;
+    }
+    most
+}
+
 // Refusal 10 of the lent bases from `start` to `end`.
 fn check_lent(reference: &[u8], alphabet: u32, start: usize, end: usize) -> u32
     requires { ⌜ end ≤ length (now reference) ⌝ }
     ensures { λ n. ⌜ n ≡ symbolsRefusal alphabet (now (reference .entry)) start (end - start) ⌝ }
 {
-    let size = alphabet::size(alphabet);
-    let mut i = start;
-    while i < end {
-        if size <= wide(reference[i]) {
-            return refusal::SYMBOL_OUT;
-        }
-        i += 1;
+    if alphabet::size(alphabet) <= wide(highest(reference, start, end)) {
+        return refusal::SYMBOL_OUT;
     }
     refusal::FINE
+}
+
+// Refusal 10 of so many positions, from a position on.
+pub(crate) fn check_range(reference: &[u8], first: u32, alphabet: u32, position: u64, n: u64) -> u32
+    requires { ⌜ (position ≤ farthest) × (n < 2 ^ 32) ⌝ }
+    ensures { λ r. ⌜ r ≡ matchRefusal alphabet (now (reference .entry)) first position n ⌝ }
+{
+    let start = lent_before(reference.len(), first, position);
+    let end = lent_before(reference.len(), first, position + n);
+    check_lent(reference, alphabet, start, end)
 }
 
 // Refusal 10 of a match from both pointers up to a place of the read.
@@ -60,71 +87,19 @@ pub(crate) fn check_match(reference: &[u8], first: u32, alphabet: u32, p: Places
 {
     let n = p.until(to);
     let at = p.reference;
-    let start = lent_before(reference.len(), first, at.0);
-    let end = lent_before(reference.len(), first, at.0 + n);
-    check_lent(reference, alphabet, start, end)
+    check_range(reference, first, alphabet, at.0, n)
 }
 
 // The letter N, as many times.
-fn put_padding(out: &mut [u8], at: usize, alphabet: u32, count: u64) -> usize
+fn put_padding(out: &mut [u8], at: usize, count: u64) -> usize
     requires { ⌜ at + 2 * count ≤ length (now out) ⌝ }
     ensures { λ a. ⌜ Laid (now (out .entry)) (now (out .exit)) at a (replicate count letterN) ⌝ }
 {
-    let n = alphabet::letter(alphabet, alphabet::index_of_n(alphabet));
     let mut next = at;
     let mut left = count;
     while 0 < left {
-        next = put_byte(out, next, n);
+        next = put_byte(out, next, b'N');
         left -= 1;
-    }
-    next
-}
-
-// Where a symbol's letter stands in the table of digits: what is outside the alphabets shares the last place.
-fn place_of(symbol: u8) -> usize
-    ensures { λ n. ⌜ n ≡ 2 * leastOf symbol 16 ⌝ }
-{
-    2 * least(symbol as u64, 16) as usize
-}
-
-// A symbol's letter, from the table of digits. Both digits are read before one is stored, so that they are moved at once.
-pub(crate) fn put_letter(
-    out: &mut [u8],
-    at: usize,
-    table: &[u8; alphabet::DIGITS],
-    symbol: u8,
-) -> usize
-    requires { ⌜ at + 2 ≤ length (now out) ⌝ }
-    ensures { λ a. ⌜ a ≡ at + 2 ⌝ }
-    ensures { λ _. ⌜ now (out .exit) ≡ set (set (now (out .entry)) at (getD (now (table .entry)) (2 * leastOf symbol 16) 0)) (at + 1) (getD (now (table .entry)) (2 * leastOf symbol 16 + 1) 0) ⌝ }
-{
-    let place = place_of(symbol);
-    let high = table[place];
-    let low = table[place + 1];
-    out[at] = high;
-    out[at + 1] = low;
-    at + 2
-}
-
-// The letters of the lent bases from `start` to `end`.
-fn put_lent(
-    out: &mut [u8],
-    at: usize,
-    reference: &[u8],
-    alphabet: u32,
-    start: usize,
-    end: usize,
-) -> usize
-    requires { ⌜ (start ≤ end) × (end ≤ length (now reference)) ⌝ }
-    requires { ⌜ at + 2 * (end - start) ≤ length (now out) ⌝ }
-    ensures { λ a. ⌜ Laid (now (out .entry)) (now (out .exit)) at a (lettersAt alphabet (now (reference .entry)) start (end - start)) ⌝ }
-{
-    let table = alphabet::digits(alphabet);
-    let mut next = at;
-    let mut i = start;
-    while i < end {
-        next = put_letter(out, next, &table, reference[i]);
-        i += 1;
     }
     next
 }
@@ -152,7 +127,7 @@ pub(crate) fn put_matched(
     let start = lent_before(reference.len(), first, from.0);
     let end = lent_before(reference.len(), first, from.0 + n);
     let behind = n - before - (end - start) as u64;
-    let lent_at = put_padding(out, at, alphabet, before);
-    let behind_at = put_lent(out, lent_at, reference, alphabet, start, end);
-    put_padding(out, behind_at, alphabet, behind)
+    let lent_at = put_padding(out, at, before);
+    let behind_at = put_letters(out, lent_at, reference, alphabet, start, end);
+    put_padding(out, behind_at, behind)
 }

@@ -1,57 +1,63 @@
-// A read's bases: pointer R and pointer r of 10.6.1 over the edits of a segment, the padding of 10.2.2, and the soft-clipped bases on both sides.
+// A read's bases: pointer R and pointer r of 10.6.1 over the edits of a run, the padding of 10.2.2, and the soft-clipped bases on both sides.
 mod lent;
+pub mod letters;
 mod places;
 
 use crate::lent::check_match;
-use crate::lent::least;
-use crate::lent::put_letter;
+use crate::lent::check_range;
 use crate::lent::put_matched;
+use crate::letters::put_letters;
 use crate::places::Places;
+use alphabet::letter::put_letter;
 use edits::Block;
+use edits::Run;
 use edits::edit::Edit;
 use edits::edit::edit_at;
+use edits::edit::substitutes;
+use edits::edit::substitution_at;
 use edits::edit::width;
-use edits::mapped_length;
-use frame::field::byte_at;
+use edits::run_of;
 ghost use mathlib.Core.Path.{_≡_};
+ghost use mathlib.Core.Bool.{true};
 ghost use mathlib.Core.List.{_++_};
 ghost use Prim.Native.Nat.{_+_, _-_, _*_, _≤_};
 ghost use lib.ListN.{length};
-ghost use Rattle.frame.specs.Hex.{unhex};
 ghost use Rattle.writing.specs.Lay.{Laid};
 ghost use Rattle.alphabet.specs.code.Digits.{digitsOf};
-ghost use Rattle.bases.specs.Reference.{matchedBases};
-ghost use Rattle.bases.specs.Bases.{R, r, editBases, lettersAt, mappedBases, referenceRefusal, basesText};
-ghost use Rattle.bases.specs.code.Helpers.{least as leastOf, farthest};
+ghost use Rattle.edits.specs.Edits.{widthOf};
+ghost use Rattle.edits.specs.code.Runs.{substitutesOnly};
+ghost use Rattle.edits.specs.Lengths.{softBases};
+ghost use Rattle.bases.specs.Reference.{matchedBases, matchRefusal};
+ghost use Rattle.bases.specs.Bases.{R, r, editBases, mappedBases, referenceRefusal, basesText};
+ghost use Rattle.bases.specs.code.Helpers.{farthest};
 
-// A place that is inside the frame, or its end: past it every byte reads as 0, so the end stands for every place there.
-fn inside(place: usize, bytes: usize) -> usize
-    ensures { λ a. ⌜ a ≡ leastOf place bytes ⌝ }
+// Refusal 10 where a lent byte outside the alphabet stands at one of so many positions, else 0.
+// This is looked at before the matches one by one, since nearly every reference has no such byte.
+pub fn check_positions(reference: &[u8], first: u32, alphabet: u32, position: u32, n: u32) -> u32
+    ensures { λ r. ⌜ r ≡ matchRefusal alphabet (now (reference .entry)) first position n ⌝ }
 {
-    least(place as u64, bytes as u64) as usize
+    check_range(reference, first, alphabet, position as u64, n as u64)
 }
 
-// Refusal 10 where a lent reference byte outside the alphabet stands under a match, else 0.
+// Refusal 10 where a lent byte outside the alphabet stands under a match of a run, else 0.
 pub fn check_reference(
     reference: &[u8],
     first: u32,
     alphabet: u32,
     position: u32,
-    line: &[u8],
+    frame: &[u8],
     class: u32,
-    place: usize,
-    count: u32,
-    mapped: u32,
+    run: Run,
 ) -> u32
-    ensures { λ n. ⌜ n ≡ referenceRefusal class alphabet (unhex (now (line .entry))) (now (reference .entry)) first position mapped count place ⌝ }
+    requires { ⌜ run .«edits_at» + run .edits * widthOf class ≤ length (now frame) ⌝ }
+    ensures { λ n. ⌜ n ≡ referenceRefusal class alphabet (now (frame .entry)) (now (reference .entry)) first position (run .mapped) (run .edits) (run .«edits_at») ⌝ }
 {
     let step = width(class);
-    let bytes = line.len() / 2;
-    let mut at = inside(place, bytes);
+    let mut at = run.edits_at;
     let mut p = Places::beginning(position);
-    let mut left = count;
+    let mut left = run.edits;
     while 0 < left {
-        let e = edit_at(line, class, alphabet, at);
+        let e = edit_at(frame, class, alphabet, at);
         let no = check_match(reference, first, alphabet, p, e.offset as u32);
         if no != refusal::FINE {
             return no;
@@ -60,7 +66,7 @@ pub fn check_reference(
         at += step;
         left -= 1;
     }
-    check_match(reference, first, alphabet, p, mapped)
+    check_match(reference, first, alphabet, p, run.mapped)
 }
 
 // The match up to an edit, and the edit's own letter.
@@ -86,67 +92,97 @@ fn put_edit(
     put_letter(out, next, table, e.symbol)
 }
 
-// The mapped bases: each edit with the match before it, then the match behind the last.
-fn put_mapped(
+// The bases of a run's edits, each with the match before it, then of the match behind the last.
+fn put_edits(
     out: &mut [u8],
     at: usize,
     reference: &[u8],
     first: u32,
     alphabet: u32,
-    position: u32,
-    line: &[u8],
+    pos: u32,
+    frame: &[u8],
     class: u32,
-    place: usize,
-    count: u32,
-    mapped: u32,
+    run: Run,
 ) -> usize
-    requires { ⌜ at + 2 * length (mappedBases class alphabet (unhex (now line)) (now reference) first position mapped count place) ≤ length (now out) ⌝ }
-    ensures { λ a. ⌜ Laid (now (out .entry)) (now (out .exit)) at a (mappedBases class alphabet (unhex (now (line .entry))) (now (reference .entry)) first position mapped count place) ⌝ }
+    requires { ⌜ run .«edits_at» + run .edits * widthOf class ≤ length (now frame) ⌝ }
+    requires { ⌜ at + 2 * length (mappedBases class alphabet (now frame) (now reference) first pos (run .mapped) (run .edits) (run .«edits_at»)) ≤ length (now out) ⌝ }
+    ensures { λ a. ⌜ Laid (now (out .entry)) (now (out .exit)) at a (mappedBases class alphabet (now (frame .entry)) (now (reference .entry)) first pos (run .mapped) (run .edits) (run .«edits_at»)) ⌝ }
 {
     let table = alphabet::digits(alphabet);
     let step = width(class);
-    let bytes = line.len() / 2;
-    let mut here = inside(place, bytes);
-    let mut p = Places::beginning(position);
+    let mut here = run.edits_at;
+    let mut p = Places::beginning(pos);
     let mut next = at;
-    let mut left = count;
+    let mut left = run.edits;
     while 0 < left {
-        let e = edit_at(line, class, alphabet, here);
+        let e = edit_at(frame, class, alphabet, here);
         next = put_edit(out, next, reference, first, alphabet, &table, p, e);
         p = p.past_edit(e);
         here += step;
         left -= 1;
     }
-    put_matched(out, next, reference, first, alphabet, p, mapped)
+    put_matched(out, next, reference, first, alphabet, p, run.mapped)
 }
 
-// The letters of the frame's bytes from `start` to `end`: soft-clipped bases, and the whole of an unaligned read. Most aligned reads have no clips, and take no table for it.
-pub fn put_letters(
+// The same where every edit is a substitution: a loop of its own, in which the compiler sees that none is an insertion or a deletion.
+fn put_substitutions(
     out: &mut [u8],
     at: usize,
-    line: &[u8],
+    reference: &[u8],
+    first: u32,
     alphabet: u32,
-    start: usize,
-    end: usize,
+    pos: u32,
+    frame: &[u8],
+    class: u32,
+    run: Run,
 ) -> usize
-    requires { ⌜ start ≤ end ⌝ }
-    requires { ⌜ at + 2 * (end - start) ≤ length (now out) ⌝ }
-    ensures { λ a. ⌜ Laid (now (out .entry)) (now (out .exit)) at a (lettersAt alphabet (unhex (now (line .entry))) start (end - start)) ⌝ }
+    requires { ⌜ (substitutesOnly class ≡ true) × (run .«edits_at» + run .edits * widthOf class ≤ length (now frame)) ⌝ }
+    requires { ⌜ at + 2 * length (mappedBases class alphabet (now frame) (now reference) first pos (run .mapped) (run .edits) (run .«edits_at»)) ≤ length (now out) ⌝ }
+    ensures { λ a. ⌜ Laid (now (out .entry)) (now (out .exit)) at a (mappedBases class alphabet (now (frame .entry)) (now (reference .entry)) first pos (run .mapped) (run .edits) (run .«edits_at»)) ⌝ }
 {
-    if start == end {
-        return at;
-    }
     let table = alphabet::digits(alphabet);
+    let step = width(class);
+    let mut here = run.edits_at;
+    let mut p = Places::beginning(pos);
     let mut next = at;
-    let mut i = start;
-    while i < end {
-        next = put_letter(out, next, &table, byte_at(line, i));
-        i += 1;
+    let mut left = run.edits;
+    while 0 < left {
+        let e = substitution_at(frame, class, alphabet, here);
+        next = put_edit(out, next, reference, first, alphabet, &table, p, e);
+        p = p.past_edit(e);
+        here += step;
+        left -= 1;
     }
-    next
+    put_matched(out, next, reference, first, alphabet, p, run.mapped)
 }
 
-// A whole read, laid as digits.
+// The bases of a run. One with no edits is one match, and takes no table.
+fn put_run(
+    out: &mut [u8],
+    at: usize,
+    reference: &[u8],
+    first: u32,
+    alphabet: u32,
+    pos: u32,
+    frame: &[u8],
+    class: u32,
+    run: Run,
+) -> usize
+    requires { ⌜ run .«edits_at» + run .edits * widthOf class ≤ length (now frame) ⌝ }
+    requires { ⌜ at + 2 * length (mappedBases class alphabet (now frame) (now reference) first pos (run .mapped) (run .edits) (run .«edits_at»)) ≤ length (now out) ⌝ }
+    ensures { λ a. ⌜ Laid (now (out .entry)) (now (out .exit)) at a (mappedBases class alphabet (now (frame .entry)) (now (reference .entry)) first pos (run .mapped) (run .edits) (run .«edits_at»)) ⌝ }
+{
+    if run.edits == 0 {
+        let p = Places::beginning(pos);
+        return put_matched(out, at, reference, first, alphabet, p, run.mapped);
+    }
+    if substitutes(class) {
+        return put_substitutions(out, at, reference, first, alphabet, pos, frame, class, run);
+    }
+    put_edits(out, at, reference, first, alphabet, pos, frame, class, run)
+}
+
+// A whole read, laid as digits: left soft clip, run, right soft clip.
 pub fn write(
     out: &mut [u8],
     at: usize,
@@ -154,32 +190,30 @@ pub fn write(
     first: u32,
     alphabet: u32,
     position: u32,
-    line: &[u8],
+    frame: &[u8],
     class: u32,
     block: Block,
 ) -> usize
-    requires { ⌜ at + 2 * length (basesText class alphabet (unhex (now line)) (now reference) first position block) ≤ length (now out) ⌝ }
-    ensures { λ a. ⌜ Laid (now (out .entry)) (now (out .exit)) at a (basesText class alphabet (unhex (now (line .entry))) (now (reference .entry)) first position block) ⌝ }
+    requires { ⌜ (block .«soft_at» + softBases (block .clips) ≤ length (now frame)) × (block .«edits_at» + block .edits * widthOf class ≤ length (now frame)) ⌝ }
+    requires { ⌜ at + 2 * length (basesText class alphabet (now frame) (now reference) first position block) ≤ length (now out) ⌝ }
+    ensures { λ a. ⌜ Laid (now (out .entry)) (now (out .exit)) at a (basesText class alphabet (now (frame .entry)) (now (reference .entry)) first position block) ⌝ }
 {
     let clips = block.clips;
-    let mapped = mapped_length(block.length, clips);
-    let bytes = line.len() / 2;
-    let left = inside(block.soft_at, bytes);
+    let run = run_of(block);
+    let left = block.soft_at;
     let right = left + clips.left_soft as usize;
     let end = right + clips.right_soft as usize;
-    let first_mapped = put_letters(out, at, line, alphabet, left, right);
-    let behind = put_mapped(
+    let mapped = put_letters(out, at, frame, alphabet, left, right);
+    let behind = put_run(
         out,
-        first_mapped,
+        mapped,
         reference,
         first,
         alphabet,
         position,
-        line,
+        frame,
         class,
-        block.edits_at,
-        block.edits,
-        mapped,
+        run,
     );
-    put_letters(out, behind, line, alphabet, right, end)
+    put_letters(out, behind, frame, alphabet, right, end)
 }

@@ -104,6 +104,7 @@ symbols-in alphabet frame count (suc k) at v c q i h =
 
 pub record GotClips (frame : List ℕ) (readLength at : ℕ) (c : Clips) (next : ℕ) : Type 0 where
   pub soft : softBases c < readLength
+  pub fit : ((i : ℕ) → getD frame i 0 < 256) → ClipsFit c
   pub place : next ≡ at + 8
   pub inside : next ≤ length frame
 
@@ -121,28 +122,18 @@ clips-got frame readLength at c next q =
     let e = simp t at (f .rest) in
     let i : c ≡ whole = cc in
     let p : next .at ≡ at + 2 + 2 + 2 + 2 = cc in
-    record { soft = rw i (leb-false readLength (softBases whole) t); place = omega arith; inside = omega (arith, f .fits) })
-
--- clips of 16 bits, in a frame of bytes
-pub clips-fit : (frame : List ℕ) (readLength at : ℕ) (c : Clips) (next : Cursor) → ((i : ℕ) → getD frame i 0 < 256) → clipsAt frame readLength at ≡ clips.Whole c next → ClipsFit c
-unfolding clipsAt clipsIn
-clips-fit frame readLength at c next bytes q =
-    let never : (n : ℕ) → clips.Refused n ≡ clips.Whole c next → ⊥ = λ n e. (let z : _≡_ {A = ℕ} 0 1 = cc in omega arith) in
-    let a = past-field _ (never misframed) 2 frame at _ q in
-    let b = past-field _ (never misframed) 2 frame (at + 2) _ (a .rest) in
-    let d = past-field _ (never misframed) 2 frame (at + 2 + 2) _ (b .rest) in
-    let f = past-field _ (never misframed) 2 frame (at + 2 + 2 + 2) _ (d .rest) in
-    let whole = clipsOf (bigAt 2 frame at) (bigAt 2 frame (at + 2)) (bigAt 2 frame (at + 2 + 2)) (bigAt 2 frame (at + 2 + 2 + 2)) in
-    by-test (leb readLength (softBases whole)) (λ t. absurd (never 9 (simp t at (f .rest))))
-    (λ t.
-    let e = simp t at (f .rest) in
-    let i : c ≡ whole = cc in
-    rw i
     record {
-      left-soft = bigAt-lt 2 frame at bytes;
-      left-hard = bigAt-lt 2 frame (at + 2) bytes;
-      right-soft = bigAt-lt 2 frame (at + 2 + 2) bytes;
-      right-hard = bigAt-lt 2 frame (at + 2 + 2 + 2) bytes;
+      soft = rw i (leb-false readLength (softBases whole) t);
+      fit = λ bytes.
+          rw i
+          record {
+            left-soft = bigAt-lt 2 frame at bytes;
+            left-hard = bigAt-lt 2 frame (at + 2) bytes;
+            right-soft = bigAt-lt 2 frame (at + 2 + 2) bytes;
+            right-hard = bigAt-lt 2 frame (at + 2 + 2 + 2) bytes;
+          };
+      place = omega arith;
+      inside = omega (arith, f .fits);
     })
 
 none-fit : ClipsFit noClips
@@ -150,14 +141,15 @@ none-fit = record { left-soft = lit< tt; left-hard = lit< tt; right-soft = lit< 
 
 -- ---- an aligned block that is accepted
 
--- its fields before the edits: read length and clips, only I and HM having clips, and the soft-clipped bases
+-- its fields before the edits: read length and clips, of 16 bits in a frame of bytes, only I and HM having clips, and the soft-clipped bases
 pub record Sides (class alphabet : ℕ) (frame : List ℕ) (readLength : ℕ) (c : Clips) (softAt : ℕ) : Type 0 where
   pub least : 1 ≤ readLength
   pub most : readLength ≤ mostRead
   pub soft : softBases c < readLength
-  pub fit : ClipsFit c
+  pub fit : ((i : ℕ) → getD frame i 0 < 256) → ClipsFit c
   pub bare : class < classI → c ≡ noClips
   pub symbols : (i : ℕ) → i < softBases c → getD frame (softAt + i) 0 < sizeOf alphabet
+  pub clipped : softAt + softBases c ≤ length frame
 
 -- and its edits, which P has none of
 pub record ReadyBlock (class alphabet : ℕ) (frame : List ℕ) (a : AlignedBlock) : Type 0 where
@@ -210,7 +202,7 @@ checked-whole : (x : CheckedField) (f : ℕ → Cursor → AlignedRead) (a : Ali
 checked-whole (field.Value v c) f a q go = go v c refl q
 checked-whole (field.Refused n) f a q go = absurd (let z : _≡_ {A = ℕ} 0 1 = cc in omega arith)
 
-module _ (class alphabet : ℕ) (frame : List ℕ) (bytes : (i : ℕ) → getD frame i 0 < 256) (a : AlignedBlock) where
+module _ (class alphabet : ℕ) (frame : List ℕ) (a : AlignedBlock) where
   edits-ready : (readLength rcomp : ℕ) (c : Clips) (softAt at : ℕ) → fromEdits class alphabet frame readLength rcomp c softAt at ≡ Whole a
       → Sides class alphabet frame readLength c softAt → at ≤ length frame → ReadyBlock class alphabet frame a
   unfolding fromEdits
@@ -221,13 +213,13 @@ module _ (class alphabet : ℕ) (frame : List ℕ) (bytes : (i : ℕ) → getD f
       (λ v next e r. tallied-ready class alphabet frame (blockOf readLength rcomp c softAt v (next .at)) a r sides (λ p. absurd (eqb-false class classP t p)) (count-got frame at v next e .inside)))
 
   soft-ready : (readLength rcomp : ℕ) (c : Clips) (at : ℕ) → fromSoft class alphabet frame readLength rcomp c at ≡ Whole a
-      → ((symbols : (i : ℕ) → i < softBases c → getD frame (at + i) 0 < sizeOf alphabet) → Sides class alphabet frame readLength c at) → at ≤ length frame → ReadyBlock class alphabet frame a
+      → ((symbols : (i : ℕ) → i < softBases c → getD frame (at + i) 0 < sizeOf alphabet) → at + softBases c ≤ length frame → Sides class alphabet frame readLength c at) → at ≤ length frame → ReadyBlock class alphabet frame a
   unfolding fromSoft
   soft-ready readLength rcomp c at q sides inside =
       checked-whole (symbolsFrom alphabet frame (softBases c) (softBases c) at) _ a q
       (λ v next e r.
       let g = symbols-got alphabet frame (softBases c) (softBases c) at v next e inside in
-      edits-ready readLength rcomp c at (next .at) r (sides (symbols-in alphabet frame (softBases c) (softBases c) at v next e)) (omega (arith, g .0, g .1)))
+      edits-ready readLength rcomp c at (next .at) r (sides (symbols-in alphabet frame (softBases c) (softBases c) at v next e) (g .1)) (omega (arith, g .0, g .1)))
 
   clips-ready : (readLength rcomp at : ℕ) → fromClips class alphabet frame readLength rcomp at ≡ Whole a
       → 1 ≤ readLength → readLength ≤ mostRead → at ≤ length frame → ReadyBlock class alphabet frame a
@@ -236,7 +228,7 @@ module _ (class alphabet : ℕ) (frame : List ℕ) (bytes : (i : ℕ) → getD f
       by-test (ltb class classI)
       (λ t.
       edits-ready readLength rcomp noClips at at (simp t at q)
-      record { least = one; most = most; soft = omega arith; fit = none-fit; bare = λ e. refl; symbols = λ i h. absurd (omega arith) }
+      record { least = one; most = most; soft = omega arith; fit = λ bytes. none-fit; bare = λ e. refl; symbols = λ i h. absurd (omega arith); clipped = omega arith }
       inside)
       (λ t. by (ltb-false class classI t) (clipsAt frame readLength at) refl (simp t at q))
     where
@@ -245,7 +237,7 @@ module _ (class alphabet : ℕ) (frame : List ℕ) (bytes : (i : ℕ) → getD f
       by clipped (clips.Whole c next) e z =
           let g = clips-got frame readLength at c next e in
           soft-ready readLength rcomp c (next .at) z
-          (λ symbols. record { least = one; most = most; soft = g .soft; fit = clips-fit frame readLength at c next bytes e; bare = λ e. absurd (omega arith); symbols = symbols })
+          (λ symbols room. record { least = one; most = most; soft = g .soft; fit = g .fit; bare = λ e. absurd (omega arith); symbols = symbols; clipped = room })
           (g .inside)
 
   pub block-ready : (at : ℕ) → alignedAt class alphabet frame at ≡ Whole a → ReadyBlock class alphabet frame a

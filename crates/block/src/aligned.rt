@@ -1,4 +1,4 @@
-// An aligned block: length, rcomp, clips, soft-clipped bases, edits. Its place in the unit and the reference under it are looked at in part.rt.
+// An aligned block: length, rcomp, clips, soft-clipped bases, edits. Its place in the unit and the reference under it are looked at in segment.
 use crate::checked::CheckedField;
 use crate::checked::read_count;
 use crate::checked::read_length;
@@ -8,11 +8,10 @@ use crate::clips::read_clips;
 use crate::symbols::read_symbols;
 use edits::Block;
 use edits::Clips;
-use edits::mapped_length;
+use edits::run_of;
 use frame::field::Cursor;
 use unit::Unit;
 ghost use mathlib.Core.Path.{_≡_};
-ghost use Rattle.frame.specs.Hex.{unhex};
 ghost use Rattle.block.specs.Aligned.{alignedAt, fromRcomp, fromClips, fromSoft, fromEdits, editsTallied};
 
 // A segment that its block gives, the reference positions that it takes, the length of its E-CIGAR, and the place behind the block.
@@ -29,47 +28,55 @@ pub enum AlignedRead {
 }
 
 // The fields of an aligned block, left to right.
-pub fn read_block(line: &[u8], class: u32, alphabet: u32, c: Cursor) -> AlignedRead
-    ensures { λ r. ⌜ r ≡ alignedAt class alphabet (unhex (now (line .entry))) (c .at) ⌝ }
+pub fn read_block(frame: &[u8], class: u32, alphabet: u32, c: Cursor) -> AlignedRead
+    ensures { λ r. ⌜ r ≡ alignedAt class alphabet (now (frame .entry)) (c .at) ⌝ }
 {
-    match read_length(line, c) {
+    match read_length(frame, c) {
         CheckedField::Refused(n) => AlignedRead::Refused(n),
-        CheckedField::Value(length, next) => from_rcomp(line, class, alphabet, length, next),
+        CheckedField::Value(length, next) => from_rcomp(frame, class, alphabet, length, next),
     }
 }
 
-fn from_rcomp(line: &[u8], class: u32, alphabet: u32, length: u32, c: Cursor) -> AlignedRead
-    ensures { λ r. ⌜ r ≡ fromRcomp class alphabet (unhex (now (line .entry))) length (c .at) ⌝ }
+fn from_rcomp(frame: &[u8], class: u32, alphabet: u32, length: u32, c: Cursor) -> AlignedRead
+    ensures { λ r. ⌜ r ≡ fromRcomp class alphabet (now (frame .entry)) length (c .at) ⌝ }
 {
-    match read_rcomp(line, c) {
+    match read_rcomp(frame, c) {
         CheckedField::Refused(n) => AlignedRead::Refused(n),
-        CheckedField::Value(rcomp, next) => from_clips(line, class, alphabet, length, rcomp, next),
+        CheckedField::Value(rcomp, next) => from_clips(frame, class, alphabet, length, rcomp, next),
     }
 }
 
 // Only classes I and HM have clips.
 fn from_clips(
-    line: &[u8],
+    frame: &[u8],
     class: u32,
     alphabet: u32,
     length: u32,
     rcomp: u32,
     c: Cursor,
 ) -> AlignedRead
-    ensures { λ r. ⌜ r ≡ fromClips class alphabet (unhex (now (line .entry))) length rcomp (c .at) ⌝ }
+    ensures { λ r. ⌜ r ≡ fromClips class alphabet (now (frame .entry)) length rcomp (c .at) ⌝ }
 {
     let at = c.at;
     if class < Unit::I {
-        return from_edits(line, class, alphabet, length, rcomp, Clips::none(), at, c);
+        return from_edits(frame, class, alphabet, length, rcomp, Clips::none(), at, c);
     }
-    match read_clips(line, length, c) {
+    match read_clips(frame, length, c) {
         Clipped::Refused(n) => AlignedRead::Refused(n),
-        Clipped::Whole(clips, next) => from_soft(line, class, alphabet, length, rcomp, clips, next),
+        Clipped::Whole(clips, next) => from_soft(
+            frame,
+            class,
+            alphabet,
+            length,
+            rcomp,
+            clips,
+            next,
+        ),
     }
 }
 
 fn from_soft(
-    line: &[u8],
+    frame: &[u8],
     class: u32,
     alphabet: u32,
     length: u32,
@@ -77,13 +84,13 @@ fn from_soft(
     clips: Clips,
     c: Cursor,
 ) -> AlignedRead
-    ensures { λ r. ⌜ r ≡ fromSoft class alphabet (unhex (now (line .entry))) length rcomp clips (c .at) ⌝ }
+    ensures { λ r. ⌜ r ≡ fromSoft class alphabet (now (frame .entry)) length rcomp clips (c .at) ⌝ }
 {
     let at = c.at;
-    match read_symbols(line, alphabet, clips.soft(), c) {
+    match read_symbols(frame, alphabet, clips.soft(), c) {
         CheckedField::Refused(n) => AlignedRead::Refused(n),
         CheckedField::Value(_, next) => from_edits(
-            line,
+            frame,
             class,
             alphabet,
             length,
@@ -97,7 +104,7 @@ fn from_soft(
 
 // Class P has no edits.
 fn from_edits(
-    line: &[u8],
+    frame: &[u8],
     class: u32,
     alphabet: u32,
     length: u32,
@@ -106,7 +113,7 @@ fn from_edits(
     soft_at: usize,
     c: Cursor,
 ) -> AlignedRead
-    ensures { λ r. ⌜ r ≡ fromEdits class alphabet (unhex (now (line .entry))) length rcomp clips «soft_at» (c .at) ⌝ }
+    ensures { λ r. ⌜ r ≡ fromEdits class alphabet (now (frame .entry)) length rcomp clips «soft_at» (c .at) ⌝ }
 {
     let at = c.at;
     if class == Unit::P {
@@ -118,9 +125,9 @@ fn from_edits(
             edits: 0,
             edits_at: at,
         };
-        return tally(line, class, alphabet, block);
+        return tally(frame, class, alphabet, block);
     }
-    match read_count(line, c) {
+    match read_count(frame, c) {
         CheckedField::Refused(n) => AlignedRead::Refused(n),
         CheckedField::Value(edits, next) => {
             let block = Block {
@@ -131,20 +138,20 @@ fn from_edits(
                 edits,
                 edits_at: next.at,
             };
-            tally(line, class, alphabet, block)
+            tally(frame, class, alphabet, block)
         }
     }
 }
 
 // The edits, one by one.
-fn tally(line: &[u8], class: u32, alphabet: u32, block: Block) -> AlignedRead
-    ensures { λ r. ⌜ r ≡ editsTallied class alphabet (unhex (now (line .entry))) block ⌝ }
+fn tally(frame: &[u8], class: u32, alphabet: u32, block: Block) -> AlignedRead
+    ensures { λ r. ⌜ r ≡ editsTallied class alphabet (now (frame .entry)) block ⌝ }
 {
     let clips = block.clips;
     let edits_at = block.edits_at;
     let edits = block.edits;
-    let mapped = mapped_length(block.length, clips);
-    match ecigar::check::check(line, class, alphabet, edits_at, edits, mapped) {
+    let run = run_of(block);
+    match ecigar::check::check(frame, class, alphabet, run) {
         ecigar::check::EditsChecked::Refused(n) => AlignedRead::Refused(n),
         ecigar::check::EditsChecked::Fine { taken, text } => {
             let whole = AlignedBlock {

@@ -3,7 +3,6 @@ use edits::Block;
 use frame::field::Cursor;
 use frame::field::Field;
 ghost use mathlib.Core.Path.{_≡_};
-ghost use Rattle.frame.specs.Hex.{unhex};
 ghost use Rattle.block.specs.Checked.{lengthAt, rcompAt, countAt};
 
 // A field's value and the place behind it, or the refusal's number.
@@ -13,10 +12,10 @@ pub enum CheckedField {
 }
 
 // Read length: 1 to the limit.
-pub(crate) fn read_length(line: &[u8], c: Cursor) -> CheckedField
-    ensures { λ r. ⌜ r ≡ lengthAt (unhex (now (line .entry))) (c .at) ⌝ }
+pub(crate) fn read_length(frame: &[u8], c: Cursor) -> CheckedField
+    ensures { λ r. ⌜ r ≡ lengthAt (now (frame .entry)) (c .at) ⌝ }
 {
-    let Field::Value(v, next) = frame::field::read_u16(line, c) else {
+    let Field::Value(v, next) = frame::bytes::read_u16(frame, c) else {
         return CheckedField::Refused(refusal::MISFRAMED);
     };
     if v < 1 {
@@ -29,10 +28,10 @@ pub(crate) fn read_length(line: &[u8], c: Cursor) -> CheckedField
 }
 
 // Rcomp: 0 or 1.
-pub(crate) fn read_rcomp(line: &[u8], c: Cursor) -> CheckedField
-    ensures { λ r. ⌜ r ≡ rcompAt (unhex (now (line .entry))) (c .at) ⌝ }
+pub(crate) fn read_rcomp(frame: &[u8], c: Cursor) -> CheckedField
+    ensures { λ r. ⌜ r ≡ rcompAt (now (frame .entry)) (c .at) ⌝ }
 {
-    let Field::Value(v, next) = frame::field::read_u8(line, c) else {
+    let Field::Value(v, next) = frame::bytes::read_u8(frame, c) else {
         return CheckedField::Refused(refusal::MISFRAMED);
     };
     if 1 < v {
@@ -42,10 +41,10 @@ pub(crate) fn read_rcomp(line: &[u8], c: Cursor) -> CheckedField
 }
 
 // Edit count: 0 to the limit.
-pub(crate) fn read_count(line: &[u8], c: Cursor) -> CheckedField
-    ensures { λ r. ⌜ r ≡ countAt (unhex (now (line .entry))) (c .at) ⌝ }
+pub(crate) fn read_count(frame: &[u8], c: Cursor) -> CheckedField
+    ensures { λ r. ⌜ r ≡ countAt (now (frame .entry)) (c .at) ⌝ }
 {
-    let Field::Value(v, next) = frame::field::read_u16(line, c) else {
+    let Field::Value(v, next) = frame::bytes::read_u16(frame, c) else {
         return CheckedField::Refused(refusal::MISFRAMED);
     };
     if Block::EDITS < v {

@@ -3,7 +3,6 @@ use edits::Clips;
 use frame::field::Cursor;
 use frame::field::Field;
 ghost use mathlib.Core.Path.{_≡_};
-ghost use Rattle.frame.specs.Hex.{unhex};
 ghost use Rattle.block.specs.Clips.{clipsAt, clipsIn};
 
 // The clips and the place behind them, or the refusal's number.
@@ -13,19 +12,19 @@ pub enum Clipped {
 }
 
 // Left soft, left hard, right soft, right hard; refused once all four are read where the soft ones reach the read length.
-pub(crate) fn read_clips(line: &[u8], length: u32, c: Cursor) -> Clipped
-    ensures { λ r. ⌜ r ≡ clipsAt (unhex (now (line .entry))) length (c .at) ⌝ }
+pub(crate) fn read_clips(frame: &[u8], length: u32, c: Cursor) -> Clipped
+    ensures { λ r. ⌜ r ≡ clipsAt (now (frame .entry)) length (c .at) ⌝ }
 {
-    let Field::Value(left_soft, c1) = frame::field::read_u16(line, c) else {
+    let Field::Value(left_soft, c1) = frame::bytes::read_u16(frame, c) else {
         return Clipped::Refused(refusal::MISFRAMED);
     };
-    let Field::Value(left_hard, c2) = frame::field::read_u16(line, c1) else {
+    let Field::Value(left_hard, c2) = frame::bytes::read_u16(frame, c1) else {
         return Clipped::Refused(refusal::MISFRAMED);
     };
-    let Field::Value(right_soft, c3) = frame::field::read_u16(line, c2) else {
+    let Field::Value(right_soft, c3) = frame::bytes::read_u16(frame, c2) else {
         return Clipped::Refused(refusal::MISFRAMED);
     };
-    let Field::Value(right_hard, c4) = frame::field::read_u16(line, c3) else {
+    let Field::Value(right_hard, c4) = frame::bytes::read_u16(frame, c3) else {
         return Clipped::Refused(refusal::MISFRAMED);
     };
     let clips = Clips {

@@ -1,4 +1,4 @@
-// One block of a record: read field by field from the lent line, and refused where document 01 says.
+// One block of a record: read field by field from the frame, and refused where document 01 says.
 pub mod aligned;
 pub mod checked;
 pub mod clips;

@@ -1,9 +1,7 @@
 // Runs of symbol indexes, one a byte: soft-clipped bases, and the bases of an unaligned block.
 use crate::checked::CheckedField;
 use frame::field::Cursor;
-use frame::field::byte_at;
 ghost use mathlib.Core.Path.{_≡_};
-ghost use Rattle.frame.specs.Hex.{unhex};
 ghost use Rattle.block.specs.Symbols.{symbolRun};
 
 fn wide(b: u8) -> u32
@@ -13,18 +11,18 @@ fn wide(b: u8) -> u32
 }
 
 // So many symbols from a place on: each is refused when it is complete. Answers their number and the place behind them.
-pub(crate) fn read_symbols(line: &[u8], alphabet: u32, count: u32, c: Cursor) -> CheckedField
-    ensures { λ r. ⌜ r ≡ symbolRun alphabet (unhex (now (line .entry))) count (c .at) ⌝ }
+pub(crate) fn read_symbols(frame: &[u8], alphabet: u32, count: u32, c: Cursor) -> CheckedField
+    ensures { λ r. ⌜ r ≡ symbolRun alphabet (now (frame .entry)) count (c .at) ⌝ }
 {
     let size = alphabet::size(alphabet);
-    let bytes = line.len() / 2;
+    let bytes = frame.len();
     let mut at = c.at;
     let mut left = count;
     while 0 < left {
         if bytes <= at {
             return CheckedField::Refused(refusal::MISFRAMED);
         }
-        if size <= wide(byte_at(line, at)) {
+        if size <= wide(frame[at]) {
             return CheckedField::Refused(refusal::SYMBOL_OUT);
         }
         at += 1;

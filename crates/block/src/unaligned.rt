@@ -4,7 +4,6 @@ use crate::checked::read_length;
 use crate::symbols::read_symbols;
 use frame::field::Cursor;
 ghost use mathlib.Core.Path.{_≡_};
-ghost use Rattle.frame.specs.Hex.{unhex};
 ghost use Rattle.block.specs.Unaligned.{unalignedAt, fromLength};
 
 // The read's length, the place of its symbols, and the place behind the block.
@@ -19,20 +18,20 @@ pub enum UnalignedRead {
     Refused(u32),
 }
 
-pub fn read(line: &[u8], alphabet: u32, c: Cursor) -> UnalignedRead
-    ensures { λ r. ⌜ r ≡ unalignedAt alphabet (unhex (now (line .entry))) (c .at) ⌝ }
+pub fn read(frame: &[u8], alphabet: u32, c: Cursor) -> UnalignedRead
+    ensures { λ r. ⌜ r ≡ unalignedAt alphabet (now (frame .entry)) (c .at) ⌝ }
 {
-    match read_length(line, c) {
+    match read_length(frame, c) {
         CheckedField::Refused(n) => UnalignedRead::Refused(n),
-        CheckedField::Value(length, next) => from_length(line, alphabet, length, next),
+        CheckedField::Value(length, next) => from_length(frame, alphabet, length, next),
     }
 }
 
-fn from_length(line: &[u8], alphabet: u32, length: u32, c: Cursor) -> UnalignedRead
-    ensures { λ r. ⌜ r ≡ fromLength alphabet (unhex (now (line .entry))) length (c .at) ⌝ }
+fn from_length(frame: &[u8], alphabet: u32, length: u32, c: Cursor) -> UnalignedRead
+    ensures { λ r. ⌜ r ≡ fromLength alphabet (now (frame .entry)) length (c .at) ⌝ }
 {
     let at = c.at;
-    match read_symbols(line, alphabet, length, c) {
+    match read_symbols(frame, alphabet, length, c) {
         CheckedField::Refused(n) => UnalignedRead::Refused(n),
         CheckedField::Value(_, next) => {
             let whole = UnalignedBlock { length, at, next };

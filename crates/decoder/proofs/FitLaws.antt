@@ -14,7 +14,7 @@ use Rattle.unit.specs.State.{subsequences, symbolPlace, tableLength}
 use Rattle.unit.proofs.ValidLaws.{UnitValid, valid-is}
 use Rattle.front.specs.PairLine.{pairHead, symbolList}
 use Rattle.front.proofs.PairLaws.{length-symbols, symbol-fits}
-use Rattle.front.proofs.StoreLaws.{length-stored, stored-inside, stored-before, stored-behind}
+use Rattle.frame.proofs.StoreLaws.{length-stored, stored-inside, stored-before, stored-behind}
 use Rattle.front.proofs.UnitLaws.{UnitFits, unit-fits, unit-valid}
 use Rattle.pairing.specs.Table60.{mateSeqId, mappingPos}
 use Rattle.pairing.proofs.Laws.{link-within}

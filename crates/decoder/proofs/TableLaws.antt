@@ -15,7 +15,7 @@ use Rattle.front.specs.declared.reference_line.ReferenceLine.{ReferenceLine}
 use Rattle.front.specs.declared.reference_line.ReferenceLine.the-variants.{Bases, Refused}
 use Rattle.front.proofs.ReferenceLaws.{reference-accepted, reference-joined, length-reference}
 use Rattle.front.proofs.PairLaws.{length-table}
-use Rattle.front.proofs.StoreLaws.{length-stored, stored-inside, stored-before}
+use Rattle.frame.proofs.StoreLaws.{length-stored, stored-inside, stored-before}
 use Rattle.unit.specs.declared.State.{State}
 use Rattle.pairing.specs.Take.{taken, symbolOf}
 use Rattle.listing.specs.Files.{good}

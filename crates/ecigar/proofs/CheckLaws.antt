@@ -1,18 +1,17 @@
 -- The laws of the check: each turn of its loop, the bounds that hold on the way, and what an accepted list of edits meets.
 -- Assumes nothing.
-use mathlib.Core.Path.{_≡_, sym, ap, _∙_}
+use mathlib.Core.Path.{_≡_, ap, _∙_}
 use mathlib.Core.Bool.{true, false, cond}
 use mathlib.Core.Logic.{inr}
 use mathlib.Core.List.{List, _∷_, _++_}
-use Prim.Native.Nat.{ℕ, zero, suc, _+_, _-_, _*_, _/_, _<_, _≤_}
+use Prim.Native.Nat.{ℕ, zero, suc, _+_, _-_, _*_, _<_, _≤_}
 use native.Mathlib.Omega.{arith}
 use native.Mathlib.Nat.{suc-mul, zero-mul, zero-add, add-zero}
-use borrow.Author.Tests.{lt-ltb, le-ltb, ltb-true, ltb-false, eq-eqb, ne-eqb, eqb-true, eqb-false}
+use borrow.Author.Tests.{ltb-true, ltb-false, eq-eqb, ne-eqb, eqb-true, eqb-false}
 use lib.Dec.{ltb, eqb}
 use lib.ListN.{length, length-append}
 use Rattle.refusal.specs.Numbers.{fine, misframed}
-use Rattle.frame.specs.Hex.{unhex}
-use Rattle.frame.proofs.HexLaws.{by-test, length-unhex}
+use Rattle.frame.proofs.Tests.{by-test}
 use Rattle.alphabet.specs.Table35.{sizeOf}
 use Rattle.edits.specs.Edits.{substitution, insertion, widthOf, editAt, editsAt, nextOffset, editRefusal, Sound, takenFrom, takenBy}
 use Rattle.edits.specs.Lengths.{mostRead, mostEdits}
@@ -28,17 +27,6 @@ use Rattle.ecigar.specs.Check.{endsWithin, editsRefusal, answered, edits
 use Rattle.ecigar.specs.code.Tally.{startTally, textBy, tallied, afterLast}
 use Rattle.ecigar.proofs.PrintLaws.{length-printed}
 use Rattle.ecigar.proofs.WalkLaws.{Open, length-mark, text-on, text-end, past-next, past-run, past-open, edit-most}
-
--- ---- where the frame ends
-
-pub ends-short : (l : List ℕ) (at n : ℕ) → length l / 2 < at + n → true ≡ endsWithin (unhex l) at n
-ends-short l at n h = sym (lt-ltb (length (unhex l)) (at + n) (rw length-unhex h))
-
-pub ends-long : (l : List ℕ) (at n : ℕ) → at + n ≤ length l / 2 → false ≡ endsWithin (unhex l) at n
-ends-long l at n h = sym (le-ltb (length (unhex l)) (at + n) (rw length-unhex h))
-
-pub ends-room : (l : List ℕ) (at n : ℕ) → false ≡ endsWithin (unhex l) at n → at + n ≤ length l / 2
-ends-room l at n h = rw length-unhex at (ltb-false (length (unhex l)) (at + n) (sym h))
 
 -- ---- one edit
 

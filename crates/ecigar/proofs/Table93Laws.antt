@@ -19,7 +19,7 @@ use Rattle.edits.proofs.EditLaws.{EditAccepted, sound-tail, next-deletion, next
 use Rattle.ecigar.specs.declared.walk.Walk.{Walk}
 use Rattle.ecigar.specs.Table90.{counted, equalsSign, plusSign, minusSign, printAll}
 use Rattle.ecigar.specs.Ecigar.{setOut, joinsRun, past, matches, openRun, gap, mark, operationsFrom}
-use Rattle.ecigar.specs.Table93.{item, withMatch, mismatchLoop, Run, insertionLoop, deletionLoop, indelLoop}
+use Rattle.ecigar.specs.Table93.{item, withMatch, mismatchLoop, IndelRun, insertionLoop, deletionLoop, indelLoop}
 use Rattle.ecigar.proofs.PrintLaws.{printed-append}
 use Rattle.ecigar.proofs.WalkLaws.{matches-none, matches-some, closed-insertion, closed-deletion, closed-none, gap-joined, gap-apart, mark-letter, mark-none, text-on, text-end, ending-both, past-next, past-kind, past-joined, past-apart, joins-same, joins-not, apart-letter}
 use Rattle.ecigar.specs.Table92.{offsetsOf, lettersIn, typesOf}
@@ -93,28 +93,28 @@ module _ (alphabet len : ℕ) where
 
 -- ---- the inner loops, which differ in the type, and in what they add to the offset
 
-unfoldable runLoop : ℕ → ℕ → ℕ → List ℕ → List ℕ → ℕ → Run → Run
+unfoldable runLoop : ℕ → ℕ → ℕ → List ℕ → List ℕ → ℕ → IndelRun → IndelRun
 runLoop kind more mmNumber mmOffsets mmTypes zero r = r
 runLoop kind more mmNumber mmOffsets mmTypes (suc left) r =
     cond (ltb (r .i) mmNumber && eqb (item mmTypes (r .i)) kind && eqb (item mmOffsets (r .i) - r .previousOffset) 0)
     (runLoop kind more mmNumber mmOffsets mmTypes left (record { i = r .i + 1; previousOffset = item mmOffsets (r .i) + more; count = r .count + 1 }))
     r
 
-insertion-loop : (n : ℕ) (offsets types : List ℕ) (f : ℕ) (r : Run) → insertionLoop n offsets types f r ≡ runLoop insertion 1 n offsets types f r
+insertion-loop : (n : ℕ) (offsets types : List ℕ) (f : ℕ) (r : IndelRun) → insertionLoop n offsets types f r ≡ runLoop insertion 1 n offsets types f r
 unfolding insertionLoop runLoop
 insertion-loop n offsets types zero r = refl
 insertion-loop n offsets types (suc f) r = rw (insertion-loop n offsets types f)
 
-deletion-loop : (n : ℕ) (offsets types : List ℕ) (f : ℕ) (r : Run) → deletionLoop n offsets types f r ≡ runLoop deletion 0 n offsets types f r
+deletion-loop : (n : ℕ) (offsets types : List ℕ) (f : ℕ) (r : IndelRun) → deletionLoop n offsets types f r ≡ runLoop deletion 0 n offsets types f r
 unfolding deletionLoop runLoop
 deletion-loop n offsets types zero r = refl
 deletion-loop n offsets types (suc f) r = rw (add-zero, deletion-loop n offsets types f)
 
-abbrev runAt : ℕ → ℕ → ℕ → Run
+abbrev runAt : ℕ → ℕ → ℕ → IndelRun
 runAt i next count = record { i = i; previousOffset = next; count = count }
 
 module _ (kind more : ℕ) (es : List Edit) where
-  abbrev loop : ℕ → Run → Run
+  abbrev loop : ℕ → IndelRun → IndelRun
   loop f r = runLoop kind more (length es) (offsetsOf es) (typesOf es) f r
 
   loop-on : (f i next count : ℕ) (e : Edit) (rest : List Edit) → drop i es ≡ e ∷ rest → 0 < f → e .kind ≡ kind → e .offset - next ≡ 0
@@ -173,7 +173,7 @@ module _ (alphabet len symbols : ℕ) (es : List Edit) where
   -- an inner loop, from its test on, and the outer loop behind it
   abbrev Inner : ℕ → ℕ → ℕ → List Edit → Type 0
   Inner kind more sign rest = (left f i next count : ℕ) (text : List ℕ) → drop i es ≡ rest → length rest ≤ left → length rest ≤ f → Sound len symbols next rest
-      → (let r : Run = loop kind more es f (runAt i next count) in outer left (r .i) (r .previousOffset) (text ++ counted (r .count) sign))
+      → (let r : IndelRun = loop kind more es f (runAt i next count) in outer left (r .i) (r .previousOffset) (text ++ counted (r .count) sign))
       ≡ text ++ still (record { next = next; kind = kind; run = count }) rest
 
   outer-end : Outer []
@@ -220,7 +220,7 @@ module _ (alphabet len symbols : ℕ) (es : List Edit) where
         w = record { next = next; kind = type; run = count }
 
         joins : e .kind ≡ type → e .offset - next ≡ 0
-            → (let r : Run = loop type more es f (runAt i next count) in outer left (r .i) (r .previousOffset) (text ++ counted (r .count) sign)) ≡ text ++ still w (e ∷ rest)
+            → (let r : IndelRun = loop type more es f (runAt i next count) in outer left (r .i) (r .previousOffset) (text ++ counted (r .count) sign)) ≡ text ++ still w (e ∷ rest)
         joins a b =
             let o = order next e rest s in
             let n = known .after e a in
@@ -230,7 +230,7 @@ module _ (alphabet len symbols : ℕ) (es : List Edit) where
             ∙ ap (λ (l : List ℕ). text ++ l) (sym (joined-on w e rest j (λ z. known .apart (sym a ∙ z)) ∙ ap (λ (v : Walk). still v rest) (past-joined w e j ∙ rw (n, a)))))
 
         stops : loop type more es f (runAt i next count) ≡ runAt i next count → joinsRun w e ≡ false
-            → (let r : Run = loop type more es f (runAt i next count) in outer left (r .i) (r .previousOffset) (text ++ counted (r .count) sign)) ≡ text ++ still w (e ∷ rest)
+            → (let r : IndelRun = loop type more es f (runAt i next count) in outer left (r .i) (r .previousOffset) (text ++ counted (r .count) sign)) ≡ text ++ still w (e ∷ rest)
         stops p j =
             rw p
             (out left i (plain next) (text ++ counted count sign) q h refl s
@@ -240,7 +240,7 @@ module _ (alphabet len symbols : ℕ) (es : List Edit) where
     -- the first edit of a run
     run-first : (e : Edit) (rest : List Edit) → Inner type more sign rest → (left i : ℕ) (w : Walk) (text : List ℕ) → drop i es ≡ e ∷ rest → length (e ∷ rest) ≤ suc left
         → w .kind ≡ substitution → Sound len symbols (w .next) (e ∷ rest) → e .kind ≡ type
-        → (let r : Run = loop type more es (length es) (runAt i (e .offset) 0) in outer left (r .i) (r .previousOffset) (withMatch text (e .offset - w .next) ++ counted (r .count) sign))
+        → (let r : IndelRun = loop type more es (length es) (runAt i (e .offset) 0) in outer left (r .i) (r .previousOffset) (withMatch text (e .offset - w .next) ++ counted (r .count) sign))
         ≡ text ++ still w (e ∷ rest)
     run-first e rest again left i w text q h k s a =
         let n = known .after e a in

@@ -5,45 +5,66 @@ use mathlib.Core.List.{List, _++_}
 use Prim.Native.Nat.{ℕ, _+_, _-_, _*_, _<_, _≤_}
 use native.Mathlib.Omega.{arith}
 use lib.ListN.{length, length-append}
-use Rattle.writing.proofs.LayLaws.{Rest, rest-room}
+use Rattle.writing.proofs.LayLaws.{Rest, rest-start, rest-put, rest-room}
+use Rattle.writing.specs.Lay.{Laid}
 use Rattle.alphabet.specs.Table35.{sizeOf}
 use Rattle.edits.specs.Edits.{widthOf, editAt, editsAt, Sound, blockEdits}
 use Rattle.edits.specs.Lengths.{mappedLength}
 use Rattle.edits.specs.declared.edit.Edit.{Edit}
 use Rattle.edits.specs.declared.Block.{Block}
-use Rattle.edits.proofs.EditLaws.{edits-none, list-on}
+use Rattle.edits.proofs.EditLaws.{edits-none, list-on, framed-on, accepted-on, sound-on}
 use Rattle.ecigar.specs.declared.walk.Walk.{Walk}
 use Rattle.ecigar.specs.Table90.{printAll}
-use Rattle.ecigar.specs.Ecigar.{past, gap, mark, ending, operationsFrom, operationsOf, ecigarOf, clipsLength, leftClip, rightClip, blockOperations, ecigarText}
+use Rattle.ecigar.specs.Ecigar.{setOut, past, gap, mark, ending, operationsFrom, operationsOf, ecigarOf, clipsLength, leftClip, rightClip, blockOperations, ecigarText}
 use Rattle.ecigar.specs.Check.{checkOf}
 use Rattle.ecigar.specs.declared.check.EditsChecked.the-variants.{Fine}
 use Rattle.ecigar.proofs.PrintLaws.{printed-append}
 use Rattle.ecigar.proofs.CheckLaws.{checked-fine}
-use Rattle.ecigar.proofs.WalkLaws.{text-on, text-end}
+use Rattle.ecigar.proofs.WalkLaws.{text-on, text-end, past-next}
 
 -- ---- a turn of the loop
 
+-- what holds before each turn, when k edits are left
+pub record Writing (class alphabet : ℕ) (frame : List ℕ) (mapped k at : ℕ) (w : Walk) (l : List ℕ) (p : ℕ) (l₀ : List ℕ) (p₀ : ℕ) (whole : List ℕ) : Type 0 where
+  pub next : w .next ≤ mapped
+  pub framed : at + k * widthOf class ≤ length frame
+  pub sound : Sound mapped (sizeOf alphabet) (w .next) (editsAt class alphabet frame k at)
+  pub rest : Rest l p (printAll (operationsFrom alphabet mapped w (editsAt class alphabet frame k at))) l₀ p₀ whole
+
+-- before the first
+pub writing-start : (class alphabet : ℕ) (frame : List ℕ) (mapped k at : ℕ) (l : List ℕ) (p : ℕ) → at + k * widthOf class ≤ length frame
+    → Sound mapped (sizeOf alphabet) 0 (editsAt class alphabet frame k at)
+    → Writing class alphabet frame mapped k at setOut l p l p (ecigarOf alphabet mapped (editsAt class alphabet frame k at))
+unfolding ecigarOf
+writing-start class alphabet frame mapped k at l p h s = record { next = omega arith; framed = h; sound = s; rest = rest-start _ _ _ }
+
 module _ (class alphabet : ℕ) (frame : List ℕ) (mapped k at step : ℕ) (e : Edit) (wide : step ≡ widthOf class) (it : e ≡ editAt class alphabet frame at) (more : 0 < k) where
-  pub ecigar-on : (w : Walk) → printAll (operationsFrom alphabet mapped w (editsAt class alphabet frame k at))
+  ecigar-on : (w : Walk) → printAll (operationsFrom alphabet mapped w (editsAt class alphabet frame k at))
       ≡ printAll (gap w e ++ mark alphabet e) ++ printAll (operationsFrom alphabet mapped (past w e) (editsAt class alphabet frame (k - 1) (at + step)))
   ecigar-on w = rw (list-on class alphabet frame mapped k at step e wide it more) (text-on alphabet mapped w e (editsAt class alphabet frame (k - 1) (at + step)))
 
-  pub room-on : {l l₀ xs₀ : List ℕ} {p p₀ : ℕ} (w : Walk) → Rest l p (printAll (operationsFrom alphabet mapped w (editsAt class alphabet frame k at))) l₀ p₀ xs₀
-      → p₀ + 2 * length xs₀ ≤ length l₀ → p + 2 * length (printAll (gap w e ++ mark alphabet e)) ≤ length l
-  room-on w r b =
-      rest-room (printAll (gap w e ++ mark alphabet e)) (printAll (operationsFrom alphabet mapped (past w e) (editsAt class alphabet frame (k - 1) (at + step)))) r (ecigar-on w) b
+  module _ {l l₀ whole : List ℕ} {p p₀ : ℕ} {w : Walk} (g : Writing class alphabet frame mapped k at w l p l₀ p₀ whole) where
+    pub writing-order : w .next ≤ e .offset
+    writing-order = accepted-on class alphabet frame mapped k at step e wide it more (w .next) (g .sound) .order
+
+    pub writing-room : p₀ + 2 * length whole ≤ length l₀ → p + 2 * length (printAll (gap w e ++ mark alphabet e)) ≤ length l
+    writing-room b =
+        rest-room (printAll (gap w e ++ mark alphabet e)) (printAll (operationsFrom alphabet mapped (past w e) (editsAt class alphabet frame (k - 1) (at + step)))) (g .rest) (ecigar-on w) b
+
+    -- past the edit, when what it adds is laid
+    pub writing-on : {m : List ℕ} {q : ℕ} {v : Walk} → v ≡ past w e → Laid l m p q (printAll (gap w e ++ mark alphabet e))
+        → Writing class alphabet frame mapped (k - 1) (at + step) v m q l₀ p₀ whole
+    writing-on moved f =
+        record {
+          next = omega (arith, accepted-on class alphabet frame mapped k at step e wide it more (w .next) (g .sound) .inside, past-next w e moved);
+          framed = framed-on frame class at k step (g .framed) wide more .1;
+          sound = rw (past-next w e moved) (sound-on class alphabet frame mapped k at step e wide it more (w .next) (g .sound));
+          rest = rw moved (rest-put (g .rest) (ecigar-on w) f);
+        }
 
 pub ecigar-end : (class alphabet : ℕ) (frame : List ℕ) (mapped k at : ℕ) (w : Walk) → k ≤ 0
     → printAll (operationsFrom alphabet mapped w (editsAt class alphabet frame k at)) ≡ printAll (ending mapped w)
 ecigar-end class alphabet frame mapped k at w h = rw (edits-none class alphabet frame k at h) (text-end alphabet mapped w)
-
--- what holds before each turn, when k of n edits are left
-pub record Writing (class alphabet : ℕ) (frame : List ℕ) (mapped n k at : ℕ) (w : Walk) (l : List ℕ) (p : ℕ) (l₀ : List ℕ) (p₀ : ℕ) (whole : List ℕ) : Type 0 where
-  pub next : w .next ≤ mapped
-  pub run : w .run + k ≤ n
-  pub framed : at + k * widthOf class ≤ length frame
-  pub sound : Sound mapped (sizeOf alphabet) (w .next) (editsAt class alphabet frame k at)
-  pub rest : Rest l p (printAll (operationsFrom alphabet mapped w (editsAt class alphabet frame k at))) l₀ p₀ whole
 
 -- ---- the whole text
 

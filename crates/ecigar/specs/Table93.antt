@@ -37,13 +37,13 @@ mismatchLoop character len mmNumber mmOffsets (suc left) i previousOffset ecigar
     (withMatch ecigar (len - previousOffset))
 
 -- where an inner loop of Class_I stands
-pub record Run : Type 0 where
+pub record IndelRun : Type 0 where
   pub i : ℕ
   pub previousOffset : ℕ
   pub count : ℕ
 
 -- Insertion: while(i < mmNumber && mmTypes[i] == 1 && mmOffsets[i] - previousOffset == 0) { previousOffset = mmOffsets[i] + 1; count++, i++ }
-unfoldable pub insertionLoop : (mmNumber : ℕ) (mmOffsets mmTypes : List ℕ) (left : ℕ) → Run → Run
+unfoldable pub insertionLoop : (mmNumber : ℕ) (mmOffsets mmTypes : List ℕ) (left : ℕ) → IndelRun → IndelRun
 insertionLoop mmNumber mmOffsets mmTypes zero r = r
 insertionLoop mmNumber mmOffsets mmTypes (suc left) r =
     cond (ltb (r .i) mmNumber && eqb (item mmTypes (r .i)) 1 && eqb (item mmOffsets (r .i) - r .previousOffset) 0)
@@ -51,7 +51,7 @@ insertionLoop mmNumber mmOffsets mmTypes (suc left) r =
     r
 
 -- Deletion: while(i < mmNumber && mmTypes[i] == 2 && mmOffsets[i] - previousOffset == 0) { previousOffset = mmOffsets[i]; count++, i++ }
-unfoldable pub deletionLoop : (mmNumber : ℕ) (mmOffsets mmTypes : List ℕ) (left : ℕ) → Run → Run
+unfoldable pub deletionLoop : (mmNumber : ℕ) (mmOffsets mmTypes : List ℕ) (left : ℕ) → IndelRun → IndelRun
 deletionLoop mmNumber mmOffsets mmTypes zero r = r
 deletionLoop mmNumber mmOffsets mmTypes (suc left) r =
     cond (ltb (r .i) mmNumber && eqb (item mmTypes (r .i)) 2 && eqb (item mmOffsets (r .i) - r .previousOffset) 0)
@@ -59,7 +59,7 @@ deletionLoop mmNumber mmOffsets mmTypes (suc left) r =
     r
 
 -- behind an inner loop: ecigar = strcat(ecigar, inttostr(count)), ecigar = strcat(ecigar, sign), and the outer loop again
-abbrev pub afterRun : (again : ℕ → ℕ → List ℕ → List ℕ) (sign : ℕ) (ecigar : List ℕ) → Run → List ℕ
+abbrev pub afterRun : (again : ℕ → ℕ → List ℕ → List ℕ) (sign : ℕ) (ecigar : List ℕ) → IndelRun → List ℕ
 afterRun again sign ecigar run = again (run .i) (run .previousOffset) (ecigar ++ (inttostr (run .count) ++ sign ∷ []))
 
 -- Class_I and Class_HM, from while(i < mmNumber) on. A type that the table does not have would never let its loop end
@@ -68,7 +68,7 @@ indelLoop len mmNumber mmOffsets mms mmTypes zero i previousOffset ecigar = with
 indelLoop len mmNumber mmOffsets mms mmTypes (suc left) i previousOffset ecigar =
     let again : ℕ → ℕ → List ℕ → List ℕ = indelLoop len mmNumber mmOffsets mms mmTypes left in
     let matched : List ℕ = withMatch ecigar (item mmOffsets i - previousOffset) in
-    let fresh : Run = record { i = i; previousOffset = item mmOffsets i; count = 0 } in
+    let fresh : IndelRun = record { i = i; previousOffset = item mmOffsets i; count = 0 } in
     cond (ltb i mmNumber)
     (cond (eqb (item mmTypes i) 0) (again (i + 1) (item mmOffsets i + 1) (matched ++ item mms i ∷ []))
     (cond (eqb (item mmTypes i) 1) (afterRun again plusSign matched (insertionLoop mmNumber mmOffsets mmTypes mmNumber fresh))

@@ -3,17 +3,21 @@ use crate::walk::Walk;
 use crate::walk::advance;
 use crate::walk::joins;
 use edits::Block;
+use edits::Run;
 use edits::edit::Edit;
 use edits::edit::edit_at;
 use edits::edit::refusal_of;
+use edits::edit::substitutes;
+use edits::edit::substitution_at;
 use edits::edit::width;
 use writing::decimal::decimal_len;
 ghost use mathlib.Core.Path.{_≡_};
+ghost use mathlib.Core.Bool.{true};
 ghost use Prim.Native.Nat.{_+_, _-_, _<_, _≤_};
 ghost use lib.ListN.{length};
-ghost use Rattle.frame.specs.Hex.{unhex};
 ghost use Rattle.writing.specs.Decimal.{decimal};
 ghost use Rattle.edits.specs.Edits.{takenBy};
+ghost use Rattle.edits.specs.code.Runs.{substitutesOnly};
 ghost use Rattle.edits.specs.Lengths.{mostRead, mostEdits, mostEcigar};
 ghost use Rattle.ecigar.specs.Table90.{printAll};
 ghost use Rattle.ecigar.specs.Ecigar.{openRun, matches, gap};
@@ -139,10 +143,10 @@ fn finish(t: Tally, mapped: u32) -> EditsChecked
 }
 
 // Whether the frame ends before so many bytes from a place on. Two tests, since the sum may not fit.
-fn ends_within(line: &[u8], at: usize, bytes: usize) -> bool
-    ensures { λ r. ⌜ r ≡ endsWithin (unhex (now (line .entry))) at bytes ⌝ }
+fn ends_within(frame: &[u8], at: usize, bytes: usize) -> bool
+    ensures { λ r. ⌜ r ≡ endsWithin (now (frame .entry)) at bytes ⌝ }
 {
-    let all = line.len() / 2;
+    let all = frame.len();
     if all < bytes {
         return true;
     }
@@ -153,29 +157,22 @@ fn ends_within(line: &[u8], at: usize, bytes: usize) -> bool
 }
 
 // Each edit where it stands: complete, then accepted.
-fn check_edits(
-    line: &[u8],
-    class: u32,
-    alphabet: u32,
-    place: usize,
-    count: u32,
-    mapped: u32,
-) -> EditsChecked
-    requires { ⌜ (count ≤ mostEdits) × (mapped ≤ mostRead) ⌝ }
-    ensures { λ r. ⌜ r ≡ editsChecked class alphabet (unhex (now (line .entry))) place count mapped ⌝ }
+fn check_edits(frame: &[u8], class: u32, alphabet: u32, run: Run) -> EditsChecked
+    requires { ⌜ (run .edits ≤ mostEdits) × (run .mapped ≤ mostRead) ⌝ }
+    ensures { λ r. ⌜ r ≡ editsChecked class alphabet (now (frame .entry)) (run .«edits_at») (run .edits) (run .mapped) ⌝ }
 {
     let step = width(class);
     let symbols = alphabet::size(alphabet);
     let mut t = Tally::start();
-    let mut at = place;
-    let mut left = count;
+    let mut at = run.edits_at;
+    let mut left = run.edits;
     while 0 < left {
-        if ends_within(line, at, step) {
+        if ends_within(frame, at, step) {
             return EditsChecked::Refused(refusal::MISFRAMED);
         }
-        let e = edit_at(line, class, alphabet, at);
+        let e = edit_at(frame, class, alphabet, at);
         let w = t.walk;
-        let no = refusal_of(e, w.next, mapped, symbols);
+        let no = refusal_of(e, w.next, run.mapped, symbols);
         if no != refusal::FINE {
             return EditsChecked::Refused(no);
         }
@@ -183,25 +180,53 @@ fn check_edits(
         at += step;
         left -= 1;
     }
-    finish(t, mapped)
+    finish(t, run.mapped)
 }
 
-// So many edits from a place of the frame on, of a segment with so many mapped bases.
-pub fn check(
-    line: &[u8],
-    class: u32,
-    alphabet: u32,
-    place: usize,
-    count: u32,
-    mapped: u32,
-) -> EditsChecked
-    ensures { λ r. ⌜ r ≡ checkOf class alphabet (unhex (now (line .entry))) place count mapped ⌝ }
+// The same where every edit is a substitution: no run is ever open, and each edit takes the reference position of its base.
+fn check_substitutions(frame: &[u8], class: u32, alphabet: u32, run: Run) -> EditsChecked
+    requires { ⌜ (substitutesOnly class ≡ true) × (run .mapped ≤ mostRead) ⌝ }
+    ensures { λ r. ⌜ r ≡ editsChecked class alphabet (now (frame .entry)) (run .«edits_at») (run .edits) (run .mapped) ⌝ }
 {
-    if Block::EDITS < count {
+    let step = width(class);
+    let symbols = alphabet::size(alphabet);
+    let mut next: u32 = 0;
+    let mut text: u32 = 0;
+    let mut at = run.edits_at;
+    let mut left = run.edits;
+    while 0 < left {
+        if ends_within(frame, at, step) {
+            return EditsChecked::Refused(refusal::MISFRAMED);
+        }
+        let e = substitution_at(frame, class, alphabet, at);
+        let no = refusal_of(e, next, run.mapped, symbols);
+        if no != refusal::FINE {
+            return EditsChecked::Refused(no);
+        }
+        let offset = e.offset as u32;
+        text = text + matches_len(offset - next) + 1;
+        next = offset + 1;
+        at += step;
+        left -= 1;
+    }
+    EditsChecked::Fine {
+        taken: run.mapped,
+        text: text + matches_len(run.mapped - next),
+    }
+}
+
+// The edits of a run, where they stand in the frame.
+pub fn check(frame: &[u8], class: u32, alphabet: u32, run: Run) -> EditsChecked
+    ensures { λ r. ⌜ r ≡ checkOf class alphabet (now (frame .entry)) (run .«edits_at») (run .edits) (run .mapped) ⌝ }
+{
+    if Block::EDITS < run.edits {
         return EditsChecked::Refused(refusal::FIELD_OUT);
     }
-    if Block::READ < mapped {
+    if Block::READ < run.mapped {
         return EditsChecked::Refused(refusal::LENGTH_OUT);
     }
-    check_edits(line, class, alphabet, place, count, mapped)
+    if substitutes(class) {
+        return check_substitutions(frame, class, alphabet, run);
+    }
+    check_edits(frame, class, alphabet, run)
 }

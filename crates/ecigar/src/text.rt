@@ -3,20 +3,27 @@ use crate::clip::put_clip;
 use crate::walk::Walk;
 use crate::walk::advance;
 use crate::walk::joins;
+use alphabet::letter::put_letter;
 use edits::Block;
+use edits::Run;
 use edits::edit::Edit;
 use edits::edit::edit_at;
+use edits::edit::substitutes;
+use edits::edit::substitution_at;
 use edits::edit::width;
-use edits::mapped_length;
+use edits::run_of;
 use writing::decimal::put_decimal;
 use writing::lay::put_byte;
+ghost use mathlib.Core.Path.{_≡_};
+ghost use mathlib.Core.Bool.{true};
 ghost use mathlib.Core.List.{_++_};
 ghost use Prim.Native.Nat.{_+_, _-_, _*_, _<_, _≤_};
 ghost use lib.ListN.{length};
-ghost use Rattle.frame.specs.Hex.{unhex};
 ghost use Rattle.writing.specs.Lay.{Laid};
 ghost use Rattle.alphabet.specs.Table35.{sizeOf};
+ghost use Rattle.alphabet.specs.code.Digits.{digitsOf};
 ghost use Rattle.edits.specs.Edits.{widthOf, editsAt, Sound, blockEdits};
+ghost use Rattle.edits.specs.code.Runs.{substitutesOnly};
 ghost use Rattle.edits.specs.Lengths.{mostEdits, mappedLength};
 ghost use Rattle.ecigar.specs.Table90.{counted, printAll};
 ghost use Rattle.ecigar.specs.Ecigar.{openRun, matches, gap, mark, ending, ecigarOf, ecigarText};
@@ -67,24 +74,36 @@ fn put_gap(out: &mut [u8], at: usize, w: Walk, e: Edit) -> usize
 }
 
 // The letter of a substitution. The letter - of alphabet 1 is one like the others.
-fn put_mark(out: &mut [u8], at: usize, alphabet: u32, e: Edit) -> usize
-    requires { ⌜ at + 2 * length (printAll (mark alphabet e)) ≤ length (now out) ⌝ }
+fn put_mark(
+    out: &mut [u8],
+    at: usize,
+    alphabet: u32,
+    table: &[u8; alphabet::DIGITS],
+    e: Edit,
+) -> usize
+    requires { ⌜ (now table ≡ digitsOf alphabet) × (at + 2 * length (printAll (mark alphabet e)) ≤ length (now out)) ⌝ }
     ensures { λ r. ⌜ Laid (now (out .entry)) (now (out .exit)) at r (printAll (mark alphabet e)) ⌝ }
 {
     if e.kind == Edit::SUBSTITUTION {
-        let b = alphabet::letter(alphabet, e.symbol as u32);
-        return put_byte(out, at, b);
+        return put_letter(out, at, table, e.symbol);
     }
     at
 }
 
 // What one edit adds to the text.
-fn put_edit(out: &mut [u8], at: usize, alphabet: u32, w: Walk, e: Edit) -> usize
-    requires { ⌜ (w .next ≤ e .offset) × (at + 2 * length (printAll (gap w e ++ mark alphabet e)) ≤ length (now out)) ⌝ }
+fn put_edit(
+    out: &mut [u8],
+    at: usize,
+    alphabet: u32,
+    table: &[u8; alphabet::DIGITS],
+    w: Walk,
+    e: Edit,
+) -> usize
+    requires { ⌜ (now table ≡ digitsOf alphabet) × ((w .next ≤ e .offset) × (at + 2 * length (printAll (gap w e ++ mark alphabet e)) ≤ length (now out))) ⌝ }
     ensures { λ r. ⌜ Laid (now (out .entry)) (now (out .exit)) at r (printAll (gap w e ++ mark alphabet e)) ⌝ }
 {
     let next = put_gap(out, at, w, e);
-    put_mark(out, next, alphabet, e)
+    put_mark(out, next, alphabet, table, e)
 }
 
 // What stands behind the last edit.
@@ -96,63 +115,101 @@ fn put_ending(out: &mut [u8], at: usize, w: Walk, mapped: u32) -> usize
     put_matches(out, next, mapped - w.next)
 }
 
-// The text of so many edits from a place of the frame on, without clips.
-fn write_edits(
+// The text of a run's edits, as they stand in the frame.
+fn put_edits(
     out: &mut [u8],
     from: usize,
-    line: &[u8],
+    frame: &[u8],
     class: u32,
     alphabet: u32,
-    place: usize,
-    count: u32,
-    mapped: u32,
+    run: Run,
 ) -> usize
-    requires { ⌜ (count ≤ mostEdits) × (place + count * widthOf class ≤ length (unhex (now line))) ⌝ }
-    requires { ⌜ Sound mapped (sizeOf alphabet) 0 (editsAt class alphabet (unhex (now line)) count place) ⌝ }
-    requires { ⌜ from + 2 * length (ecigarOf alphabet mapped (editsAt class alphabet (unhex (now line)) count place)) ≤ length (now out) ⌝ }
-    ensures { λ r. ⌜ Laid (now (out .entry)) (now (out .exit)) from r (ecigarOf alphabet mapped (editsAt class alphabet (unhex (now (line .entry))) count place)) ⌝ }
+    requires { ⌜ (run .edits ≤ mostEdits) × (run .«edits_at» + run .edits * widthOf class ≤ length (now frame)) ⌝ }
+    requires { ⌜ Sound (run .mapped) (sizeOf alphabet) 0 (editsAt class alphabet (now frame) (run .edits) (run .«edits_at»)) ⌝ }
+    requires { ⌜ from + 2 * length (ecigarOf alphabet (run .mapped) (editsAt class alphabet (now frame) (run .edits) (run .«edits_at»))) ≤ length (now out) ⌝ }
+    ensures { λ r. ⌜ Laid (now (out .entry)) (now (out .exit)) from r (ecigarOf alphabet (run .mapped) (editsAt class alphabet (now (frame .entry)) (run .edits) (run .«edits_at»))) ⌝ }
 {
+    let table = alphabet::digits(alphabet);
     let step = width(class);
     let mut w = Walk::start();
     let mut next = from;
-    let mut at = place;
-    let mut left = count;
+    let mut at = run.edits_at;
+    let mut left = run.edits;
     while 0 < left {
-        let e = edit_at(line, class, alphabet, at);
-        next = put_edit(out, next, alphabet, w, e);
+        let e = edit_at(frame, class, alphabet, at);
+        next = put_edit(out, next, alphabet, &table, w, e);
         w = advance(w, e);
         at += step;
         left -= 1;
     }
-    put_ending(out, next, w, mapped)
+    put_ending(out, next, w, run.mapped)
 }
 
-// The whole text of a segment that `check` accepted: left clip, edits, right clip.
+// The same where every edit is a substitution: a match and a letter, and so on.
+fn put_substitutions(
+    out: &mut [u8],
+    from: usize,
+    frame: &[u8],
+    class: u32,
+    alphabet: u32,
+    run: Run,
+) -> usize
+    requires { ⌜ (substitutesOnly class ≡ true) × (run .«edits_at» + run .edits * widthOf class ≤ length (now frame)) ⌝ }
+    requires { ⌜ Sound (run .mapped) (sizeOf alphabet) 0 (editsAt class alphabet (now frame) (run .edits) (run .«edits_at»)) ⌝ }
+    requires { ⌜ from + 2 * length (ecigarOf alphabet (run .mapped) (editsAt class alphabet (now frame) (run .edits) (run .«edits_at»))) ≤ length (now out) ⌝ }
+    ensures { λ r. ⌜ Laid (now (out .entry)) (now (out .exit)) from r (ecigarOf alphabet (run .mapped) (editsAt class alphabet (now (frame .entry)) (run .edits) (run .«edits_at»))) ⌝ }
+{
+    let table = alphabet::digits(alphabet);
+    let step = width(class);
+    let mut done: u32 = 0;
+    let mut next = from;
+    let mut at = run.edits_at;
+    let mut left = run.edits;
+    while 0 < left {
+        let e = substitution_at(frame, class, alphabet, at);
+        let offset = e.offset as u32;
+        let behind = put_matches(out, next, offset - done);
+        next = put_letter(out, behind, &table, e.symbol);
+        done = offset + 1;
+        at += step;
+        left -= 1;
+    }
+    put_matches(out, next, run.mapped - done)
+}
+
+// The text of a run that `check` accepted, without clips. A run with no edits is one match, and takes no table.
+fn put_run(out: &mut [u8], at: usize, frame: &[u8], class: u32, alphabet: u32, run: Run) -> usize
+    requires { ⌜ (run .edits ≤ mostEdits) × (run .«edits_at» + run .edits * widthOf class ≤ length (now frame)) ⌝ }
+    requires { ⌜ Sound (run .mapped) (sizeOf alphabet) 0 (editsAt class alphabet (now frame) (run .edits) (run .«edits_at»)) ⌝ }
+    requires { ⌜ at + 2 * length (ecigarOf alphabet (run .mapped) (editsAt class alphabet (now frame) (run .edits) (run .«edits_at»))) ≤ length (now out) ⌝ }
+    ensures { λ r. ⌜ Laid (now (out .entry)) (now (out .exit)) at r (ecigarOf alphabet (run .mapped) (editsAt class alphabet (now (frame .entry)) (run .edits) (run .«edits_at»))) ⌝ }
+{
+    if run.edits == 0 {
+        return put_matches(out, at, run.mapped);
+    }
+    if substitutes(class) {
+        return put_substitutions(out, at, frame, class, alphabet, run);
+    }
+    put_edits(out, at, frame, class, alphabet, run)
+}
+
+// The whole text of a block that `check` accepted: left clip, run, right clip.
 pub fn write(
     out: &mut [u8],
     at: usize,
-    line: &[u8],
+    frame: &[u8],
     class: u32,
     alphabet: u32,
     block: Block,
 ) -> usize
-    requires { ⌜ (block .edits ≤ mostEdits) × (block .«edits_at» + block .edits * widthOf class ≤ length (unhex (now line))) ⌝ }
-    requires { ⌜ Sound (mappedLength (block .length) (block .clips)) (sizeOf alphabet) 0 (blockEdits class alphabet (unhex (now line)) block) ⌝ }
-    requires { ⌜ at + 2 * length (ecigarText class alphabet (unhex (now line)) block) ≤ length (now out) ⌝ }
-    ensures { λ r. ⌜ Laid (now (out .entry)) (now (out .exit)) at r (ecigarText class alphabet (unhex (now (line .entry))) block) ⌝ }
+    requires { ⌜ (block .edits ≤ mostEdits) × (block .«edits_at» + block .edits * widthOf class ≤ length (now frame)) ⌝ }
+    requires { ⌜ Sound (mappedLength (block .length) (block .clips)) (sizeOf alphabet) 0 (blockEdits class alphabet (now frame) block) ⌝ }
+    requires { ⌜ at + 2 * length (ecigarText class alphabet (now frame) block) ≤ length (now out) ⌝ }
+    ensures { λ r. ⌜ Laid (now (out .entry)) (now (out .exit)) at r (ecigarText class alphabet (now (frame .entry)) block) ⌝ }
 {
     let clips = block.clips;
-    let mapped = mapped_length(block.length, clips);
+    let run = run_of(block);
     let left = put_clip(out, at, clips.left_soft as u32, clips.left_hard as u32);
-    let edits = write_edits(
-        out,
-        left,
-        line,
-        class,
-        alphabet,
-        block.edits_at,
-        block.edits,
-        mapped,
-    );
-    put_clip(out, edits, clips.right_soft as u32, clips.right_hard as u32)
+    let right = put_run(out, left, frame, class, alphabet, run);
+    put_clip(out, right, clips.right_soft as u32, clips.right_hard as u32)
 }

@@ -1,59 +1,53 @@
 -- The laws of edits: what an accepted one meets, and a list of them taken one by one.
 -- Assumes nothing.
-use Prim.Native.Nat.{ℕ, zero, suc, _+_, _-_, _*_, _/_, _<_, _≤_}
+use Prim.Native.Nat.{ℕ, zero, suc, _+_, _-_, _*_, _<_, _≤_}
 use mathlib.Core.Path.{_≡_, refl, ap, sym, _∙_}
-use mathlib.Core.Bool.{cond}
+use mathlib.Core.Bool.{true, false}
 use mathlib.Core.List.{List, [], _∷_}
 use native.Mathlib.Omega.{arith}
 use native.Mathlib.Nat.{add-zero, suc-mul, mul-le-mul-left}
-use borrow.Author.Tests.{ltb-false, le-ltb, leb-false, eqb-true, eqb-false, eq-eqb, ne-eqb}
+use borrow.Author.Tests.{ltb-false, leb-false, eqb-true, eqb-false, eq-eqb, ne-eqb}
 use lib.Dec.{ltb, leb, eqb}
-use lib.ListN.{length, getD, List·getD-eq-default}
+use lib.ListN.{length, getD}
 use Rattle.refusal.specs.Numbers.{fine}
 use Rattle.frame.specs.Field.{bigAt}
-use Rattle.frame.proofs.HexLaws.{by-test, length-unhex}
+use Rattle.frame.proofs.Tests.{by-test, false-true, one-of}
 use Rattle.unit.specs.Unit.{classN, classM}
-use Rattle.frame.specs.Hex.{unhex}
-use Rattle.alphabet.specs.Table35.{sizeOf, codeOfN}
+use Rattle.alphabet.specs.Table35.{sizeOf}
 use Rattle.edits.specs.Edits.{substitution, deletion, edit, widthOf, editAt, editsAt, nextOffset, deletionRefusal, editRefusal, Sound}
+use Rattle.edits.specs.code.Runs.{substitutesOnly}
 use Rattle.edits.specs.Lengths.{mostEdits}
 use Rattle.edits.specs.declared.edit.Edit.{Edit}
 
 -- ---- an offset is its two bytes
 
-offset-bytes : (s : List ℕ) (at : ℕ) → bigAt 2 s at ≡ getD s at 0 * 256 + getD s (at + 1) 0
+pub offset-bytes : (s : List ℕ) (at : ℕ) → bigAt 2 s at ≡ getD s at 0 * 256 + getD s (at + 1) 0
 unfolding bigAt
 offset-bytes s at = rw (add-zero at) (omega arith)
 
--- ---- past the frame's end every byte reads as 0, so every place there reads as the end does
+-- ---- the classes whose edits are all substitutions
 
-at-end : (s : List ℕ) (at k : ℕ) → length s ≤ at → getD s (at + k) 0 ≡ getD s (length s + k) 0
-at-end s at k h = List·getD-eq-default s 0 (omega arith) ∙ sym (List·getD-eq-default s 0 (omega arith))
+pub only-m : (class : ℕ) → substitutesOnly class ≡ true → (class ≡ classN → ⊥) → class ≡ classM
+unfolding substitutesOnly
+only-m class t h = eqb-true class classM (simp (ne-eqb _ _ h) at t)
 
-pub edit-inside : (class alphabet : ℕ) (l : List ℕ) (at : ℕ) {here : ℕ} → here ≡ cond (ltb at (length l / 2)) at (length l / 2) → editAt class alphabet (unhex l) at ≡ editAt class alphabet (unhex l) here
+pub substitution-kind : (class alphabet : ℕ) (frame : List ℕ) (at : ℕ) → substitutesOnly class ≡ true → editAt class alphabet frame at .kind ≡ substitution
+unfolding substitutesOnly editAt
+substitution-kind class alphabet frame at t =
+    by-test (eqb class classN) (λ n. simp n) (λ n. let m : eqb class classM ≡ true = simp n at t in simp (n, m))
+
+-- the others are neither of them: there an edit has its four bytes
+neither : (class : ℕ) → substitutesOnly class ≡ false → (eqb class classN ≡ false) × (eqb class classM ≡ false)
+unfolding substitutesOnly
+neither class t = by-test (eqb class classN) (λ n. false-true (sym t ∙ simp n)) (λ n. (n, simp n at t))
+
+pub edit-full : (class : ℕ) → substitutesOnly class ≡ false → (alphabet : ℕ) (frame : List ℕ) (at : ℕ) → editAt class alphabet frame at ≡ edit (bigAt 2 frame at) (getD frame (at + 2) 0) (getD frame (at + 3) 0)
 unfolding editAt
-edit-inside class alphabet l at {here} e =
-    by-test (ltb at (length l / 2)) (λ t. rw (e, t))
-    (λ t.
-    let n = length-unhex l in
-    let h : length (unhex l) ≤ at = omega (arith, ltb-false at (length l / 2) t) in
-    let z : getD (unhex l) at 0 ≡ getD (unhex l) (length (unhex l)) 0 = rw (add-zero at, add-zero (length (unhex l))) at (at-end (unhex l) at 0 h) in
-    rw (e, t, ← n, offset-bytes (unhex l) at, offset-bytes (unhex l) (length (unhex l)), z, at-end (unhex l) at 1 h, at-end (unhex l) at 2 h, at-end (unhex l) at 3 h))
+edit-full class t alphabet frame at = simp (neither class t .0, neither class t .1)
 
--- ---- an edit from its bytes, in each class
-
-module _ (alphabet : ℕ) (s : List ℕ) (at a b : ℕ) (high : a ≡ getD s at 0) (low : b ≡ getD s (at + 1) 0) where
-  pub edit-n : (class y : ℕ) → class ≡ classN → y ≡ codeOfN alphabet → edit (a * 256 + b) substitution y ≡ editAt class alphabet s at
-  unfolding editAt
-  edit-n class y h e = rw (eq-eqb _ _ h, offset-bytes s at, ← high, ← low, e)
-
-  pub edit-m : (class y : ℕ) → (class ≡ classN → ⊥) → class ≡ classM → y ≡ getD s (at + 2) 0 → edit (a * 256 + b) substitution y ≡ editAt class alphabet s at
-  unfolding editAt
-  edit-m class y g h e = rw (ne-eqb _ _ g, eq-eqb _ _ h, offset-bytes s at, ← high, ← low, e)
-
-  pub edit-i : (class k y : ℕ) → (class ≡ classN → ⊥) → (class ≡ classM → ⊥) → k ≡ getD s (at + 2) 0 → y ≡ getD s (at + 3) 0 → edit (a * 256 + b) k y ≡ editAt class alphabet s at
-  unfolding editAt
-  edit-i class k y g h e f = rw (ne-eqb _ _ g, ne-eqb _ _ h, offset-bytes s at, ← high, ← low, e, f)
+pub width-full : (class : ℕ) → substitutesOnly class ≡ false → widthOf class ≡ 4
+unfolding widthOf
+width-full class t = simp (neither class t .0, neither class t .1)
 
 -- ---- the offset after an edit
 
@@ -137,22 +131,22 @@ sound-tail mapped symbols next e es p = p .1
 pub sound-accepted : (mapped symbols next : ℕ) (e : Edit) (es : List Edit) → Sound mapped symbols next (e ∷ es) → EditAccepted mapped symbols next e
 sound-accepted mapped symbols next e es p = edit-accepted mapped symbols next e (sound-head mapped symbols next e es p)
 
--- past the frame's end every edit reads alike
-edit-past : (class alphabet : ℕ) (l : List ℕ) (a b : ℕ) → length l / 2 ≤ a → length l / 2 ≤ b → editAt class alphabet (unhex l) a ≡ editAt class alphabet (unhex l) b
-edit-past class alphabet l a b h k =
-    edit-inside class alphabet l a {here = length l / 2} (rw (le-ltb a (length l / 2) h))
-    ∙ sym (edit-inside class alphabet l b {here = length l / 2} (rw (le-ltb b (length l / 2) k)))
-
-pub edits-past : (class alphabet : ℕ) (l : List ℕ) (k a b : ℕ) → length l / 2 ≤ a → length l / 2 ≤ b → editsAt class alphabet (unhex l) k a ≡ editsAt class alphabet (unhex l) k b
-unfolding editsAt
-edits-past class alphabet l zero a b h j = refl
-edits-past class alphabet l (suc k) a b h j = rw (edit-past class alphabet l a b h j, edits-past class alphabet l k (a + widthOf class) (b + widthOf class) (omega arith) (omega arith))
-
 -- ---- how wide an edit is
 
-pub width-most : (class : ℕ) → widthOf class ≤ 4
+width-by : (P : ℕ → Type 0) → P 2 → P 3 → P 4 → (class : ℕ) → P (widthOf class)
 unfolding widthOf
-width-most class = by-test (eqb class classN) (λ t. simp t (omega arith)) (λ t. by-test (eqb class classM) (λ u. simp (t, u) (omega arith)) (λ u. simp (t, u) (omega arith)))
+width-by P n m i class = one-of P (eqb class classN) _ _ n (one-of P (eqb class classM) _ _ m i)
+
+width-most : (class : ℕ) → widthOf class ≤ 4
+width-most class = width-by (λ n. n ≤ 4) (omega arith) (omega arith) (omega arith) class
+
+-- the offset at least, and in every class but N a third byte
+pub width-least : (class : ℕ) → 2 ≤ widthOf class
+width-least class = width-by (λ n. 2 ≤ n) (omega arith) (omega arith) (omega arith) class
+
+pub width-third : (class : ℕ) → (class ≡ classN → ⊥) → 3 ≤ widthOf class
+unfolding widthOf
+width-third class h = rw (ne-eqb _ _ h) (one-of (λ n. 3 ≤ n) (eqb class classM) 3 4 (omega arith) (omega arith))
 
 -- so many edits are so many bytes
 pub edits-bytes : (class count : ℕ) → count ≤ mostEdits → count * widthOf class ≤ 4 * mostEdits

@@ -1,13 +1,12 @@
-// The edits of an aligned block: read from the frame's digits in place, and refused one by one.
-use frame::field::byte_at;
+// The edits of an aligned block: read from the frame in place, and refused one by one.
 use unit::Unit;
 ghost use mathlib.Core.Path.{_≡_};
-ghost use mathlib.Core.Bool.{cond};
+ghost use mathlib.Core.Bool.{true};
 ghost use mathlib.Core.List.{[], _∷_};
-ghost use lib.Dec.{ltb};
-ghost use Prim.Native.Nat.{_<_, _≤_};
-ghost use Rattle.frame.specs.Hex.{unhex};
-ghost use Rattle.edits.specs.Edits.{substitution, insertion, deletion, noSymbol, widthOf, editAt, nextOffset, editRefusal, deletionRefusal};
+ghost use Prim.Native.Nat.{_+_, _<_, _≤_};
+ghost use lib.ListN.{length};
+ghost use Rattle.edits.specs.Edits.{substitution, insertion, deletion, noSymbol, widthOf, offsetAt, editAt, nextOffset, editRefusal, deletionRefusal};
+ghost use Rattle.edits.specs.code.Runs.{substitutesOnly};
 
 // One edit, as Table 93 has it: mmOffsets[i], mmTypes[i], and the index of mms[i].
 pub struct Edit {
@@ -58,19 +57,30 @@ fn wide(b: u8) -> u16
     b as u16
 }
 
-// A place that is inside the frame, or its end: past it every byte reads as 0, so the end stands for every place there.
-fn inside(at: usize, bytes: usize) -> usize
-    ensures { λ r. ⌜ (r ≡ cond (ltb at bytes) at bytes) × (r ≤ bytes) ⌝ }
+// The offset of the edit at a place of the frame.
+fn offset_at(frame: &[u8], at: usize) -> u16
+    requires { ⌜ at + 2 ≤ length (now frame) ⌝ }
+    ensures { λ r. ⌜ r ≡ offsetAt (now (frame .entry)) at ⌝ }
 {
-    if at < bytes { at } else { bytes }
+    wide(frame[at]) * 256 + wide(frame[at + 1])
 }
 
-// The edit that stands at a place of the frame. In class N it has no symbol of its own: the letter is N.
-pub fn edit_at(line: &[u8], class: u32, alphabet: u32, place: usize) -> Edit
-    ensures { λ r. ⌜ r ≡ editAt class alphabet (unhex (now (line .entry))) place ⌝ }
+// Whether every edit of a class is a substitution.
+pub fn substitutes(class: u32) -> bool
+    ensures { λ r. ⌜ r ≡ substitutesOnly class ⌝ }
 {
-    let at = inside(place, line.len() / 2);
-    let offset = wide(byte_at(line, at)) * 256 + wide(byte_at(line, at + 1));
+    if class == Unit::N {
+        return true;
+    }
+    class == Unit::M
+}
+
+// The edit at a place of the frame, where every edit is a substitution. In class N it has no symbol of its own: the letter is N.
+pub fn substitution_at(frame: &[u8], class: u32, alphabet: u32, at: usize) -> Edit
+    requires { ⌜ (substitutesOnly class ≡ true) × (at + widthOf class ≤ length (now frame)) ⌝ }
+    ensures { λ r. ⌜ r ≡ editAt class alphabet (now (frame .entry)) at ⌝ }
+{
+    let offset = offset_at(frame, at);
     if class == Unit::N {
         return Edit {
             offset,
@@ -78,18 +88,25 @@ pub fn edit_at(line: &[u8], class: u32, alphabet: u32, place: usize) -> Edit
             symbol: alphabet::index_of_n(alphabet) as u8,
         };
     }
-    let third = byte_at(line, at + 2);
-    if class == Unit::M {
-        return Edit {
-            offset,
-            kind: Edit::SUBSTITUTION,
-            symbol: third,
-        };
-    }
     Edit {
         offset,
-        kind: third,
-        symbol: byte_at(line, at + 3),
+        kind: Edit::SUBSTITUTION,
+        symbol: frame[at + 2],
+    }
+}
+
+// The edit at a place of the frame.
+pub fn edit_at(frame: &[u8], class: u32, alphabet: u32, at: usize) -> Edit
+    requires { ⌜ at + widthOf class ≤ length (now frame) ⌝ }
+    ensures { λ r. ⌜ r ≡ editAt class alphabet (now (frame .entry)) at ⌝ }
+{
+    if substitutes(class) {
+        return substitution_at(frame, class, alphabet, at);
+    }
+    Edit {
+        offset: offset_at(frame, at),
+        kind: frame[at + 2],
+        symbol: frame[at + 3],
     }
 }
 

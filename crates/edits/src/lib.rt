@@ -4,6 +4,7 @@ pub mod edit;
 ghost use mathlib.Core.Path.{_≡_};
 ghost use mathlib.Core.List.{[], _∷_};
 ghost use Rattle.edits.specs.Lengths.{mostRead, mostEdits, mostEcigar, noClips, softBases, mappedLength};
+ghost use Rattle.edits.specs.code.Runs.{runOf};
 
 // The clipped bases on both sides of a segment.
 pub struct Clips {
@@ -44,6 +45,13 @@ pub struct Block {
     pub edits_at: usize,
 }
 
+// A mapped run of a read: so many bases, and the edits of the frame that say where they differ from the reference.
+pub struct Run {
+    pub mapped: u32,
+    pub edits: u32,
+    pub edits_at: usize,
+}
+
 impl Block {
     // The longest read.
     pub const READ: u32 = 1_000;
@@ -62,8 +70,19 @@ fn tied() -> [u32; 3]
     [Block::READ, Block::EDITS, Block::ECIGAR]
 }
 
+// The run between the clips.
+pub fn run_of(block: Block) -> Run
+    ensures { λ r. ⌜ r ≡ runOf block ⌝ }
+{
+    Run {
+        mapped: mapped_length(block.length, block.clips),
+        edits: block.edits,
+        edits_at: block.edits_at,
+    }
+}
+
 // The read length less both soft clips; 0 where they reach it.
-pub fn mapped_length(length: u32, clips: Clips) -> u32
+fn mapped_length(length: u32, clips: Clips) -> u32
     ensures { λ r. ⌜ r ≡ mappedLength length clips ⌝ }
 {
     let soft = clips.soft();

@@ -11,12 +11,13 @@ use lib.Arith.{mod-mul}
 use lib.Dec.{leb, lit<}
 use lib.ListN.{length, getD, List·getD-append}
 use lib.Seq.{getD-append-add, getD-at}
-use Rattle.frame.specs.Hex.{unhex, be}
+use Rattle.frame.specs.Hex.{be}
 use Rattle.frame.specs.Field.{bigAt, fieldAt}
+use Rattle.frame.specs.code.Narrow.{Narrow}
 use Rattle.frame.specs.declared.field.Cursor.{Cursor}
 use Rattle.frame.specs.declared.field.Field.{Field}
 use Rattle.frame.specs.declared.field.Field.the-variants.{Value, Short}
-use Rattle.frame.proofs.HexLaws.{by-test, length-unhex, byte-lt, length-be, be-add}
+use Rattle.frame.proofs.HexLaws.{by-test, length-be, be-add}
 
 -- ---- the number that k bytes stand for
 
@@ -26,8 +27,11 @@ bigAt-lt zero s at h = lit< tt
 bigAt-lt (suc k) s at h = rw pow-suc (omega (arith, bigAt-lt k s at h, h (at + k)))
 
 -- the number so far, before the last byte of a field of at most four: there is room for one byte more
-pub big-room : {v : ℕ} (k : ℕ) (l : List ℕ) (at : ℕ) → v ≡ bigAt k (unhex l) at → k < 4 → v < 2 ^ 24
-big-room k l at e h = rw e (lt-of-lt-of-le (bigAt-lt k (unhex l) at (byte-lt l)) (pow-le-pow-right {n = 256} (lit< tt) {i = k} {j = 3} (omega arith)))
+pub big-room : {v : ℕ} (k : ℕ) → v < 256 ^ k → k < 4 → v < 2 ^ 24
+big-room k e h = lt-of-lt-of-le e (pow-le-pow-right {n = 256} (lit< tt) {i = k} {j = 3} (omega arith))
+
+pub room-more : {v b : ℕ} (k : ℕ) → v < 256 ^ k → b < 256 → v * 256 + b < 256 ^ (k + 1)
+room-more k h l = rw (add-one, pow-suc) (omega arith)
 
 pub big-more : (k : ℕ) (s : List ℕ) (at v b : ℕ) → v ≡ bigAt k s at → b ≡ getD s (at + k) 0 → v * 256 + b ≡ bigAt (k + 1) s at
 unfolding bigAt
@@ -41,13 +45,13 @@ bigAt-same (suc k) s t a b h = rw (bigAt-same k s t a b (λ i l. h i (omega arit
 
 -- ---- a field
 
-pub field-short : (k : ℕ) (l : List ℕ) (at : ℕ) → length l / 2 < at + k → Short ≡ fieldAt k (unhex l) at
+pub field-short : (k : ℕ) (s : List ℕ) (at : ℕ) → length s < at + k → Short ≡ fieldAt k s at
 unfolding fieldAt
-field-short k l at h = simp (lt-leb (at + k) (length (unhex l)) (rw length-unhex h))
+field-short k s at h = simp (lt-leb (at + k) (length s) h)
 
-pub field-value : (k : ℕ) (l : List ℕ) (at v : ℕ) → at + k ≤ length l / 2 → v ≡ bigAt k (unhex l) at → Value v (record { at = at + k }) ≡ fieldAt k (unhex l) at
+pub field-value : (k : ℕ) (s : List ℕ) (at v : ℕ) → at + k ≤ length s → v ≡ bigAt k s at → Value v (record { at = at + k }) ≡ fieldAt k s at
 unfolding fieldAt
-field-value k l at v h e = simp (le-leb (at + k) (length (unhex l)) (rw length-unhex h), e)
+field-value k s at v h e = simp (le-leb (at + k) (length s) h, e)
 
 -- ---- a field that was answered
 
@@ -73,8 +77,8 @@ unfolding fieldAt
 never-short k s at h e = absurd (let q : Short ≡ Value (bigAt k s at) (record { at = at + k }) = simp (le-leb (at + k) (length s) h) at e in let z : _≡_ {A = ℕ} 0 1 = cc in omega arith)
 
 -- its number fits its bytes
-pub value-fits : (k : ℕ) (l : List ℕ) (at v : ℕ) (c : Cursor) {answer : Field} → answer ≡ fieldAt k (unhex l) at → answer ≡ Value v c → v < 256 ^ k
-value-fits k l at v c e h = rw (value-is-field k (unhex l) at v c (sym h ∙ e) .number) (bigAt-lt k (unhex l) at (byte-lt l))
+pub value-fits : (k v : ℕ) (c : Cursor) {answer : Field} → Narrow k answer → answer ≡ Value v c → v < 256 ^ k
+value-fits k v c n h = rw h at n
 
 -- ---- a number that was laid is read back
 

@@ -5,4 +5,6 @@ pub mod LineLaws
 pub mod NextLaws
 pub mod Unique
 pub mod StepLaws
+pub mod StoreLaws
+pub mod DecodeLaws
 pub mod AnswerLaws

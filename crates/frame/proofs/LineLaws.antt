@@ -1,13 +1,13 @@
 -- The laws of a line: a well-formed line is the line of its bytes, and the line of bytes is well formed.
 -- Assumes nothing.
 use mathlib.Core.Path.{_≡_, sym, ap, _∙_}
-use mathlib.Core.Bool.{true, false}
+use mathlib.Core.Bool.{Bool, true, false, cond}
 use mathlib.Core.List.{List, [], _∷_, _++_, append-nil}
 use Prim.Native.Nat.{ℕ, suc, _+_, _*_, _-_, _/_, _%_, _<_, _≤_}
 use native.Mathlib.Numerals.{add-one}
 use native.Mathlib.Omega.{arith}
-use borrow.Author.Tests.{lt-ltb, le-ltb, ltb-false, ne-eqb, eqb-true, eqb-false}
-use lib.Dec.{ltb, eqb}
+use borrow.Author.Tests.{lt-ltb, le-ltb, ltb-true, ltb-false, leb-true, leb-false, ne-eqb, eqb-true, eqb-false}
+use lib.Dec.{ltb, leb, eqb}
 use lib.ListN.{length, take, getD, length-append, take-append-drop, drop-of-length-le}
 use lib.Seq.{getD-at, take-at, slice, slice-cons, slice-empty, length-take-le, drop-cons}
 use Rattle.frame.specs.Hex.{isDigit, unhex, hexOf, allDigits, Bytes}
@@ -18,17 +18,52 @@ use Rattle.frame.proofs.HexLaws.{by-test, length-hexOf, digits-hexOf, u
 
 -- ---- a scan of digits, from index i up to index m
 
-pub digits-step : (l : List ℕ) (m i : ℕ) → i < m → m ≤ length l → isDigit (getD l i 0) ≡ true → allDigits (slice i m l) ≡ allDigits (slice (i + 1) m l)
+digits-step : (l : List ℕ) (m i : ℕ) → i < m → m ≤ length l → isDigit (getD l i 0) ≡ true → allDigits (slice i m l) ≡ allDigits (slice (i + 1) m l)
 unfolding allDigits
 digits-step l m i h k t = rw (slice-cons i m l 0 h k, t, add-one)
 
-pub digits-stop : (l : List ℕ) (m i : ℕ) → i < m → m ≤ length l → isDigit (getD l i 0) ≡ false → allDigits (slice i m l) ≡ false
+digits-stop : (l : List ℕ) (m i : ℕ) → i < m → m ≤ length l → isDigit (getD l i 0) ≡ false → allDigits (slice i m l) ≡ false
 unfolding allDigits
 digits-stop l m i h k t = rw (slice-cons i m l 0 h k, t)
 
-pub digits-end : (l : List ℕ) (m i : ℕ) → m ≤ i → i ≤ m → allDigits (slice i m l) ≡ true
+digits-end : (l : List ℕ) (m i : ℕ) → m ≤ i → i ≤ m → allDigits (slice i m l) ≡ true
 unfolding allDigits
 digits-end l m i h k = let e : i ≡ m = omega arith in rw (e, slice-empty)
+
+-- ---- the same scan without a way out: what was found so far, 0 where all were digits
+
+-- outside 0 to 9 and outside a to f
+pub other-digit : {a b : ℕ} (d : ℕ) → a ≡ cond (ltb d 48) 1 0 + cond (ltb 57 d) 1 0 → b ≡ cond (ltb d 97) 1 0 + cond (ltb 102 d) 1 0
+    → cond (ltb a b) a b ≡ cond (isDigit d) 0 1
+unfolding isDigit
+other-digit d e f =
+    by-test (ltb d 48)
+    (λ t. let s = ltb-true d 48 t in rw (e, f) (simp (t, le-ltb 57 d (omega arith), lt-ltb d 97 (omega arith), le-ltb 102 d (omega arith))))
+    (λ t. by-test (leb d 57)
+    (λ u. let s = leb-true d 57 u in rw (e, f) (simp (t, u, le-ltb 57 d s, lt-ltb d 97 (omega arith), le-ltb 102 d (omega arith))))
+    (λ u. let s = leb-false d 57 u in by-test (ltb d 97)
+    (λ v. let r = ltb-true d 97 v in rw (e, f) (simp (t, u, v, lt-ltb 57 d s, le-ltb 102 d (omega arith))))
+    (λ v. by-test (leb d 102)
+    (λ w. rw (e, f) (simp (t, u, v, w, lt-ltb 57 d s, le-ltb 102 d (leb-true d 102 w))))
+    (λ w. rw (e, f) (simp (t, u, v, w, lt-ltb 57 d s, lt-ltb 102 d (leb-false d 102 w)))))))
+
+-- the rest is all digits, and so was what stands before it
+abbrev pub scanned : (found : ℕ) (l : List ℕ) (m i : ℕ) → Bool
+scanned found l m i = cond (eqb found 0) (allDigits (slice i m l)) false
+
+pub scan-on : (found : ℕ) {o : ℕ} (l : List ℕ) (m i : ℕ) → i < m → m ≤ length l → o ≡ cond (isDigit (getD l i 0)) 0 1
+    → scanned (cond (ltb found o) o found) l m (i + 1) ≡ scanned found l m i
+scan-on found {o} l m i h k e =
+    by-test (isDigit (getD l i 0))
+    (λ t. let z : o ≡ 0 = simp t at e in rw (z, le-ltb found 0 (omega arith), digits-step l m i h k t))
+    (λ t.
+    let z : o ≡ 1 = simp t at e in
+    by-test (eqb found 0)
+    (λ u. let y = eqb-true found 0 u in rw (z, y, digits-stop l m i h k t))
+    (λ u. let y = eqb-false found 0 u in rw (z, le-ltb found 1 (omega arith)) (simp u)))
+
+pub scan-end : (found : ℕ) (l : List ℕ) (m i : ℕ) → m ≤ i → i ≤ m → scanned found l m i ≡ eqb found 0
+scan-end found l m i h k = by-test (eqb found 0) (λ t. simp (t, digits-end l m i h k)) (λ t. simp t)
 
 -- ---- the line of bytes
 

@@ -3,11 +3,12 @@
 use mathlib.Core.Path.{_≡_, sym, _∙_}
 use mathlib.Core.List.{List}
 use Prim.Native.Nat.{ℕ}
-use lib.ListN.{getD}
+use lib.ListN.{length, take, getD}
 use Rattle.frame.specs.Hex.{unhex}
 use Rattle.frame.specs.Line.{lineWithin}
 use Rattle.frame.specs.Next.{nextLine}
 use Rattle.frame.specs.Field.{fieldAt}
+use Rattle.frame.specs.Steps.{storedAt}
 use Rattle.frame.specs.declared.line.Line.{Line}
 use Rattle.frame.specs.declared.line.Next.{Next}
 use Rattle.frame.specs.declared.field.Field.{Field}
@@ -26,9 +27,12 @@ next-line-once s p q = once p q
 pub byte-at-once : (l : List ℕ) (i : ℕ) {x y : ℕ} → x ≡ getD (unhex l) i 0 → y ≡ getD (unhex l) i 0 → x ≡ y
 byte-at-once l i p q = once p q
 
--- `read_u8`, `read_u16`, `read_u32`: for every width
-pub field-once : (k : ℕ) (l : List ℕ) (at : ℕ) {x y : Field} → x ≡ fieldAt k (unhex l) at → y ≡ fieldAt k (unhex l) at → x ≡ y
-field-once k l at p q = once p q
+-- `read_u8`, `read_u16`, `read_u32`, of digits and of bytes: for every width
+pub field-once : (k : ℕ) (frame : List ℕ) (at : ℕ) {x y : Field} → x ≡ fieldAt k frame at → y ≡ fieldAt k frame at → x ≡ y
+field-once k frame at p q = once p q
+
+pub decode-once : (frame line : List ℕ) {x y : List ℕ} → x ≡ storedAt frame 0 (take (length frame) (unhex line)) → y ≡ storedAt frame 0 (take (length frame) (unhex line)) → x ≡ y
+decode-once frame line p q = once p q
 
 -- an answer with lent memory
 pub both-once : {A B : Type 0} {x y z : A} {a b c : B} → (x ≡ z) × (a ≡ c) → (y ≡ z) × (b ≡ c) → (x ≡ y) × (a ≡ b)

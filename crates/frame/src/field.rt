@@ -1,6 +1,6 @@
 // Fields of a frame, read straight from the line's digits. Numbers are unsigned, high byte first.
 ghost use mathlib.Core.Path.{_≡_};
-ghost use Prim.Native.Nat.{_≤_};
+ghost use Prim.Native.Nat.{_<_, _≤_};
 ghost use lib.ListN.{getD};
 ghost use Rattle.frame.specs.Hex.{nib, unhex};
 ghost use Rattle.frame.specs.Field.{fieldAt};
@@ -17,7 +17,7 @@ pub enum Field {
 }
 
 // The value of a digit: its low four bits, and 9 more for a letter. No test, so no branch that is guessed wrong.
-fn nibble(d: u8) -> u8
+pub(crate) fn nibble(d: u8) -> u8
     ensures { λ r. ⌜ r ≡ nib d ⌝ }
 {
     (d % 16 + d / 64 * 9) % 16
@@ -35,8 +35,8 @@ pub fn byte_at(line: &[u8], i: usize) -> u8
     }
 }
 
-fn wide(b: u8) -> u32
-    ensures { λ r. ⌜ r ≡ b ⌝ }
+pub(crate) fn wide(b: u8) -> u32
+    ensures { λ r. ⌜ (r ≡ b) × (r < 256) ⌝ }
 {
     b as u32
 }

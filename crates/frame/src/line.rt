@@ -1,6 +1,10 @@
 // A line: lower-case hexadecimal digits, two a byte, ended by 0A.
 ghost use mathlib.Core.Path.{_≡_};
-ghost use Rattle.frame.specs.Hex.{isDigit};
+ghost use mathlib.Core.Bool.{cond, not};
+ghost use Prim.Native.Nat.{_+_, _≤_};
+ghost use lib.Dec.{ltb};
+ghost use lib.ListN.{length, take};
+ghost use Rattle.frame.specs.Hex.{isDigit, allDigits};
 ghost use Rattle.frame.specs.Line.{lineDigits, lineEnd, lineOf, lineWithin};
 ghost use Rattle.frame.specs.Next.{nextLine};
 ghost use Rattle.frame.specs.code.Window.{windowOf};
@@ -44,19 +48,53 @@ pub enum Next {
     Nothing,
 }
 
-fn is_digit(d: u8) -> bool
-    ensures { λ r. ⌜ r ≡ isDigit d ⌝ }
+// 1 where a is below b, else 0: a test without a branch.
+fn below(a: u8, b: u8) -> u8
+    ensures { λ r. ⌜ (r ≡ cond (ltb a b) 1 0) × (r ≤ 1) ⌝ }
 {
-    if d < b'0' {
-        return false;
+    if a < b { 1 } else { 0 }
+}
+
+// How often a byte is on the wrong side of two others: 0 from `first` to `last`, else 1 where first is at most last.
+fn outside(d: u8, first: u8, last: u8) -> u8
+    ensures { λ r. ⌜ r ≡ cond (ltb d first) 1 0 + cond (ltb last d) 1 0 ⌝ }
+{
+    below(d, first) + below(last, d)
+}
+
+// The lower of two numbers.
+fn lower(a: u8, b: u8) -> u8
+    ensures { λ r. ⌜ r ≡ cond (ltb a b) a b ⌝ }
+{
+    if a < b { a } else { b }
+}
+
+// The higher of two numbers.
+fn higher(a: u8, b: u8) -> u8
+    ensures { λ r. ⌜ r ≡ cond (ltb a b) b a ⌝ }
+{
+    if a < b { b } else { a }
+}
+
+// 0 for a digit, else 1.
+fn other(d: u8) -> u8
+    ensures { λ r. ⌜ r ≡ cond (isDigit d) 0 1 ⌝ }
+{
+    lower(outside(d, b'0', b'9'), outside(d, b'a', b'f'))
+}
+
+// Whether one of the first m bytes is no digit. Every one is looked at, with no way out before the last, so that many are looked at at once.
+fn has_other(line: &[u8], m: usize) -> bool
+    requires { ⌜ m ≤ length (now line) ⌝ }
+    ensures { λ r. ⌜ r ≡ not (allDigits (take m (now (line .entry)))) ⌝ }
+{
+    let mut found: u8 = 0;
+    let mut i = 0;
+    while i < m {
+        found = higher(found, other(line[i]));
+        i += 1;
     }
-    if d <= b'9' {
-        return true;
-    }
-    if d < b'a' {
-        return false;
-    }
-    d <= b'f'
+    found != 0
 }
 
 // A line of at most so many digits. Listing lines are longer than input lines, so the limit is the caller's.
@@ -74,12 +112,8 @@ pub fn line_within(line: &[u8], most: usize) -> Line
     if line[m] != Line::END {
         return Line::Malformed;
     }
-    let mut i = 0;
-    while i < m {
-        if !is_digit(line[i]) {
-            return Line::Malformed;
-        }
-        i += 1;
+    if has_other(line, m) {
+        return Line::Malformed;
     }
     Line::Frame(m / 2)
 }

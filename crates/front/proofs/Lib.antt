@@ -1,7 +1,6 @@
 pub mod UnitLaws
 pub mod PairLaws
 pub mod ReferenceLaws
-pub mod StoreLaws
 pub mod Examples
 pub mod Unique
 pub mod RefusalLaws

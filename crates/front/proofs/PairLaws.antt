@@ -13,7 +13,7 @@ use Rattle.frame.specs.Field.{bigAt}
 use Rattle.frame.proofs.HexLaws.{byte-lt, length-unhex}
 use Rattle.frame.proofs.FieldLaws.{bigAt-lt}
 use Rattle.frame.proofs.StepLaws.{past-line, past-field, past-refusal, past-limit, past-match}
-use Rattle.front.proofs.StoreLaws.{Left, left-start, length-stored}
+use Rattle.frame.proofs.StoreLaws.{Left, left-start, length-stored}
 use Rattle.unit.specs.Kinds.{kindPair}
 use Rattle.frame.specs.Steps.{storedAt}
 use Rattle.unit.specs.State.{mostSymbols, subsequences, tableLength, symbolPlace}

@@ -17,7 +17,7 @@ use Rattle.unit.specs.Unit.{mostReference}
 use Rattle.front.specs.ReferenceLine.{mostLineBases, basesOf, addedBases, referenceLine, referenceBy, referenceAfter}
 use Rattle.front.specs.declared.reference_line.ReferenceLine.{ReferenceLine}
 use Rattle.front.specs.declared.reference_line.ReferenceLine.the-variants.{Bases, Refused}
-use Rattle.front.proofs.StoreLaws.{length-stored, take-stored}
+use Rattle.frame.proofs.StoreLaws.{length-stored, take-stored}
 use Rattle.frame.proofs.StepLaws.{past-line, past-field, past-refusal, past-match}
 
 -- ---- the bases of a line, counted in its digits

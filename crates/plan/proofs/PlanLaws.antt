@@ -213,14 +213,14 @@ module _ (u : Unit) (reference frame : List ℕ) where
 
 -- ---- its aligned segments are accepted ones
 
-module _ (u : Unit) (reference frame : List ℕ) (bytes : (i : ℕ) → getD frame i 0 < 256) (valid : UnitValid u) (q : Placed) where
+module _ (u : Unit) (reference frame : List ℕ) (valid : UnitValid u) (q : Placed) where
   -- in every class but U the first stands at pos
   first-accepted : (pos at : ℕ) (next : Cursor) → firstSegment u reference frame pos at ≡ segment.Whole (Aligned q) next → SegmentAccepted u reference frame q × (q .position ≡ pos)
   unfolding firstSegment
   first-accepted pos at next e =
       by-test (eqb (u .class) classU)
       (λ t. never-plain (plain-unaligned u frame (Aligned q) next at (simp t at e)))
-      (λ t. placed-accepted u reference frame pos q next at bytes (valid .class-least) (omega (arith, valid .class-most, eqb-false (u .class) classU t)) (simp t at e))
+      (λ t. placed-accepted u reference frame pos q next at (valid .class-least) (omega (arith, valid .class-most, eqb-false (u .class) classU t)) (simp t at e))
 
   -- in the classes before HM the second stands at the mate's position
   second-accepted : (link : Link) (pos at : ℕ) (next : Cursor) → secondSegment u reference frame link pos at ≡ segment.Whole (Aligned q) next
@@ -228,7 +228,7 @@ module _ (u : Unit) (reference frame : List ℕ) (bytes : (i : ℕ) → getD fra
   unfolding secondSegment
   second-accepted link pos at next e =
       by-test (ltb (u .class) classHM)
-      (λ t. placed-accepted u reference frame (mappingPos pos (link .mate)) q next at bytes (valid .class-least) (omega (arith, ltb-true (u .class) classHM t)) (simp t at e))
+      (λ t. placed-accepted u reference frame (mappingPos pos (link .mate)) q next at (valid .class-least) (omega (arith, ltb-true (u .class) classHM t)) (simp t at e))
       (λ t. never-plain (plain-unaligned u frame (Aligned q) next at (simp t at e)))
 
   module _ (at : ℕ) (p : Plan) (b : Blocks u reference frame at p) where

@@ -8,11 +8,11 @@ use Rattle.frame.proofs.Unique.{once}
 use Rattle.unit.specs.declared.State.{State}
 use Rattle.unit.specs.declared.Unit.{Unit}
 use Rattle.plan.specs.Lent.{lentRefusal}
-use Rattle.plan.specs.Plan.{planOf}
+use Rattle.plan.specs.Plan.{fromKind}
 use Rattle.plan.specs.declared.read.Reading.{Reading}
 
 pub refusal-of-once : (u : Unit) (reference symbols counts : List ℕ) (state : State) {x y : ℕ} → x ≡ lentRefusal u (length reference) (length symbols) counts state → y ≡ lentRefusal u (length reference) (length symbols) counts state → x ≡ y
 refusal-of-once u reference symbols counts state p q = once p q
 
-pub read-once : (u : Unit) (reference symbols counts : List ℕ) (state : State) (line : List ℕ) {x y : Reading} → x ≡ planOf u reference symbols counts state line → y ≡ planOf u reference symbols counts state line → x ≡ y
-read-once u reference symbols counts state line p q = once p q
+pub read-once : (u : Unit) (reference symbols counts : List ℕ) (state : State) (frame : List ℕ) {x y : Reading} → x ≡ fromKind u reference symbols counts state frame → y ≡ fromKind u reference symbols counts state frame → x ≡ y
+read-once u reference symbols counts state frame p q = once p q

@@ -1,7 +1,6 @@
-// What a record line says, read and checked whole before a byte is written.
+// What the frame of a record line says, read and checked whole before a byte is written.
 use frame::field::Cursor;
 use frame::field::Field;
-use frame::line::Line;
 use pairing::Link;
 use pairing::LinkRead;
 use segment::Segment;
@@ -11,9 +10,8 @@ use unit::Unit;
 use unit::kind::Kind;
 ghost use mathlib.Core.Path.{_≡_};
 ghost use Prim.Native.Nat.{ℕ};
-ghost use Rattle.frame.specs.Hex.{unhex};
 ghost use Rattle.frame.specs.Field.{fieldAt};
-ghost use Rattle.plan.specs.Plan.{refusedReading, settled, planOf, fromKind, fromPos, fromFirst, fromSecond, nothingLeftOver, firstSegment, secondSegment};
+ghost use Rattle.plan.specs.Plan.{refusedReading, settled, fromKind, fromPos, fromFirst, fromSecond, nothingLeftOver, firstSegment, secondSegment};
 
 // A record as it will be listed: its pair link, its position and its segments.
 pub struct Plan {
@@ -57,35 +55,18 @@ fn settle(planned: Planned, next: State, back: State) -> Reading
     }
 }
 
-// The line is lent with its 0A.
+// The kind, then the pair symbols as they are taken.
 pub fn read(
     unit: Unit,
     reference: &[u8],
     symbols: &[u32],
     counts: &[u32],
     state: State,
-    line: &[u8],
+    frame: &[u8],
 ) -> Reading
-    ensures { λ r. ⌜ r ≡ planOf unit (now (reference .entry)) (now (symbols .entry)) (now (counts .entry)) state (now (line .entry)) ⌝ }
+    ensures { λ r. ⌜ r ≡ fromKind unit (now (reference .entry)) (now (symbols .entry)) (now (counts .entry)) state (now (frame .entry)) ⌝ }
 {
-    match frame::line::line_of(line) {
-        Line::Malformed => refused(refusal::MALFORMED, state),
-        Line::Frame(_) => from_kind(unit, reference, symbols, counts, state, line),
-    }
-}
-
-// The kind, then the pair symbols as they are taken.
-fn from_kind(
-    unit: Unit,
-    reference: &[u8],
-    symbols: &[u32],
-    counts: &[u32],
-    state: State,
-    line: &[u8],
-) -> Reading
-    ensures { λ r. ⌜ r ≡ fromKind unit (now (reference .entry)) (now (symbols .entry)) (now (counts .entry)) state (unhex (now (line .entry))) ⌝ }
-{
-    let head = reader::head::read(line);
+    let head = reader::head::read(frame);
     let field = head.kind;
     let Field::Value(kind, _) = field else {
         return refused(refusal::MISFRAMED, state);
@@ -100,15 +81,15 @@ fn from_kind(
         LinkRead::Refused(n) => refused(n, state),
         LinkRead::Linked(link) => {
             let pos = head.pos;
-            let planned = from_pos(unit, reference, line, link, pos);
+            let planned = from_pos(unit, reference, frame, link, pos);
             settle(planned, next, state)
         }
     }
 }
 
 // The position, which is 0 in class U. Its field, read with the kind, is looked at only now: the pair symbols come first.
-fn from_pos(unit: Unit, reference: &[u8], line: &[u8], link: Link, field: Field) -> Planned
-    ensures { λ r. ⌜ ((at : ℕ) → field ≡ fieldAt 4 (unhex (now (line .entry))) at → r ≡ fromPos unit (now (reference .entry)) (unhex (now (line .entry))) link at) ⌝ }
+fn from_pos(unit: Unit, reference: &[u8], frame: &[u8], link: Link, field: Field) -> Planned
+    ensures { λ r. ⌜ ((at : ℕ) → field ≡ fieldAt 4 (now (frame .entry)) at → r ≡ fromPos unit (now (reference .entry)) (now (frame .entry)) link at) ⌝ }
 {
     let Field::Value(pos, next) = field else {
         return Planned::Refused(refusal::MISFRAMED);
@@ -117,20 +98,27 @@ fn from_pos(unit: Unit, reference: &[u8], line: &[u8], link: Link, field: Field)
         if pos != 0 {
             return Planned::Refused(refusal::POSITION_OUT);
         }
-        return from_first(unit, reference, line, link, pos, next);
+        return from_first(unit, reference, frame, link, pos, next);
     }
-    from_first(unit, reference, line, link, pos, next)
+    from_first(unit, reference, frame, link, pos, next)
 }
 
-fn from_first(unit: Unit, reference: &[u8], line: &[u8], link: Link, pos: u32, c: Cursor) -> Planned
-    ensures { λ r. ⌜ r ≡ fromFirst unit (now (reference .entry)) (unhex (now (line .entry))) link pos (c .at) ⌝ }
+fn from_first(
+    unit: Unit,
+    reference: &[u8],
+    frame: &[u8],
+    link: Link,
+    pos: u32,
+    c: Cursor,
+) -> Planned
+    ensures { λ r. ⌜ r ≡ fromFirst unit (now (reference .entry)) (now (frame .entry)) link pos (c .at) ⌝ }
 {
-    match first_segment(unit, reference, line, pos, c) {
+    match first_segment(unit, reference, frame, pos, c) {
         SegmentRead::Refused(n) => Planned::Refused(n),
         SegmentRead::Whole(first, next) => from_second(
             unit,
             reference,
-            line,
+            frame,
             link,
             pos,
             first,
@@ -140,25 +128,25 @@ fn from_first(unit: Unit, reference: &[u8], line: &[u8], link: Link, pos: u32, c
 }
 
 // In class U no segment is aligned.
-fn first_segment(unit: Unit, reference: &[u8], line: &[u8], pos: u32, c: Cursor) -> SegmentRead
-    ensures { λ r. ⌜ r ≡ firstSegment unit (now (reference .entry)) (unhex (now (line .entry))) pos (c .at) ⌝ }
+fn first_segment(unit: Unit, reference: &[u8], frame: &[u8], pos: u32, c: Cursor) -> SegmentRead
+    ensures { λ r. ⌜ r ≡ firstSegment unit (now (reference .entry)) (now (frame .entry)) pos (c .at) ⌝ }
 {
     if unit.class == Unit::U {
-        return segment::read_unaligned(line, unit, c);
+        return segment::read_unaligned(frame, unit, c);
     }
-    segment::read_aligned(line, unit, reference, pos as u64, c)
+    segment::read_aligned(frame, unit, reference, pos as u64, c)
 }
 
 fn from_second(
     unit: Unit,
     reference: &[u8],
-    line: &[u8],
+    frame: &[u8],
     link: Link,
     pos: u32,
     first: Segment,
     c: Cursor,
 ) -> Planned
-    ensures { λ r. ⌜ r ≡ fromSecond unit (now (reference .entry)) (unhex (now (line .entry))) link pos first (c .at) ⌝ }
+    ensures { λ r. ⌜ r ≡ fromSecond unit (now (reference .entry)) (now (frame .entry)) link pos first (c .at) ⌝ }
 {
     if link.segments < Unit::SEGMENTS {
         let plan = Plan {
@@ -167,9 +155,9 @@ fn from_second(
             first,
             second: Segment::Absent,
         };
-        return finish(line, plan, c);
+        return finish(frame, plan, c);
     }
-    match second_segment(unit, reference, line, link, pos, c) {
+    match second_segment(unit, reference, frame, link, pos, c) {
         SegmentRead::Refused(n) => Planned::Refused(n),
         SegmentRead::Whole(second, next) => {
             let plan = Plan {
@@ -178,7 +166,7 @@ fn from_second(
                 first,
                 second,
             };
-            finish(line, plan, next)
+            finish(frame, plan, next)
         }
     }
 }
@@ -187,25 +175,25 @@ fn from_second(
 fn second_segment(
     unit: Unit,
     reference: &[u8],
-    line: &[u8],
+    frame: &[u8],
     link: Link,
     pos: u32,
     c: Cursor,
 ) -> SegmentRead
-    ensures { λ r. ⌜ r ≡ secondSegment unit (now (reference .entry)) (unhex (now (line .entry))) link pos (c .at) ⌝ }
+    ensures { λ r. ⌜ r ≡ secondSegment unit (now (reference .entry)) (now (frame .entry)) link pos (c .at) ⌝ }
 {
     if unit.class < Unit::HM {
-        return segment::read_aligned(line, unit, reference, link.mate_position(pos), c);
+        return segment::read_aligned(frame, unit, reference, link.mate_position(pos), c);
     }
-    segment::read_unaligned(line, unit, c)
+    segment::read_unaligned(frame, unit, c)
 }
 
 // Nothing may be left over.
-fn finish(line: &[u8], plan: Plan, c: Cursor) -> Planned
-    ensures { λ r. ⌜ r ≡ nothingLeftOver (unhex (now (line .entry))) plan (c .at) ⌝ }
+fn finish(frame: &[u8], plan: Plan, c: Cursor) -> Planned
+    ensures { λ r. ⌜ r ≡ nothingLeftOver (now (frame .entry)) plan (c .at) ⌝ }
 {
     let at = c.at;
-    if at < line.len() / 2 {
+    if at < frame.len() {
         return Planned::Refused(refusal::MISFRAMED);
     }
     Planned::Whole(plan)

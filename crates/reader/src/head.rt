@@ -3,7 +3,6 @@ use crate::Reader;
 use crate::Width;
 use frame::field::Field;
 ghost use mathlib.Core.Path.{_≡_};
-ghost use Rattle.frame.specs.Hex.{unhex};
 ghost use Rattle.reader.specs.Head.{recordHead};
 
 // Kind and pos, each complete or short.
@@ -12,10 +11,10 @@ pub struct Head {
     pub pos: Field,
 }
 
-pub fn read(line: &[u8]) -> Head
-    ensures { λ r. ⌜ r ≡ recordHead (unhex (now (line .entry))) ⌝ }
+pub fn read(frame: &[u8]) -> Head
+    ensures { λ r. ⌜ r ≡ recordHead (now (frame .entry)) ⌝ }
 {
-    let mut r = Reader::front(line);
+    let mut r = Reader::front(frame);
     let kind = r.field(Width::U8);
     let pos = r.field(Width::U32);
     Head { kind, pos }

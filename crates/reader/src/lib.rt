@@ -1,15 +1,14 @@
-// A reading place that remembers the frame it reads and how far it has come: a struct that holds the line's slice.
+// A reading place that remembers the frame it reads and how far it has come: a struct that holds the frame's slice.
 // Each function over it takes it apart and calls one on the slice and the number.
 pub mod head;
 
 use frame::field::Cursor;
 use frame::field::Field;
 ghost use mathlib.Core.Path.{_≡_};
-ghost use Rattle.frame.specs.Hex.{unhex};
 ghost use Rattle.frame.specs.Field.{fieldAt};
 ghost use Rattle.reader.specs.code.Reading.{widthBytes, behind, atFront, further};
 
-// The line's digits, and how many bytes of its frame are read.
+// The frame, and how many of its bytes are read.
 pub struct Reader<'a>(&'a [u8], usize);
 
 // How wide a field is.
@@ -19,14 +18,14 @@ pub enum Width {
     U32,
 }
 
-// The field at a place of the line's frame.
-fn field_at(line: &[u8], at: usize, w: Width) -> Field
-    ensures { λ r. ⌜ r ≡ fieldAt (widthBytes w) (unhex (now (line .entry))) at ⌝ }
+// The field at a place of the frame.
+fn field_at(frame: &[u8], at: usize, w: Width) -> Field
+    ensures { λ r. ⌜ r ≡ fieldAt (widthBytes w) (now (frame .entry)) at ⌝ }
 {
     match w {
-        Width::U8 => frame::field::read_u8(line, Cursor { at }),
-        Width::U16 => frame::field::read_u16(line, Cursor { at }),
-        Width::U32 => frame::field::read_u32(line, Cursor { at }),
+        Width::U8 => frame::bytes::read_u8(frame, Cursor { at }),
+        Width::U16 => frame::bytes::read_u16(frame, Cursor { at }),
+        Width::U32 => frame::bytes::read_u32(frame, Cursor { at }),
     }
 }
 
@@ -41,16 +40,16 @@ fn place_behind(f: Field, at: usize) -> usize
 }
 
 impl<'a> Reader<'a> {
-    // At the front of a line.
-    pub fn front(line: &'a [u8]) -> Reader<'a>
-        ensures { λ r. ⌜ r ≡ atFront (line .entry) ⌝ }
+    // At the front of a frame.
+    pub fn front(frame: &'a [u8]) -> Reader<'a>
+        ensures { λ r. ⌜ r ≡ atFront (frame .entry) ⌝ }
     {
-        Reader(line, 0)
+        Reader(frame, 0)
     }
 
     // The next field, and the place moves behind it; where the frame ends before it is complete, the place stays.
     pub fn field(&mut self, w: Width) -> Field
-        ensures { λ r. ⌜ (r ≡ fieldAt (widthBytes w) (unhex (now (now (self .entry) .0))) (now (self .entry) .1)) × (now (self .exit) ≡ further (now (self .entry)) r) ⌝ }
+        ensures { λ r. ⌜ (r ≡ fieldAt (widthBytes w) (now (now (self .entry) .0)) (now (self .entry) .1)) × (now (self .exit) ≡ further (now (self .entry)) r) ⌝ }
     {
         let at = self.1;
         let f = field_at(self.0, at, w);

@@ -6,14 +6,16 @@ use Prim.Native.Nat.{ℕ, _<_}
 use native.Mathlib.Omega.{arith}
 use borrow.Author.Tests.{eq-eqb, ne-eqb}
 use lib.ListN.{length}
-use Rattle.refusal.specs.Numbers.{fine}
+use Rattle.refusal.specs.Numbers.{fine, malformed}
 use Rattle.frame.specs.Hex.{unhex}
+use Rattle.frame.specs.Line.{lineOf}
+use Rattle.frame.specs.declared.line.Line.the-variants.{Frame, Malformed}
 use Rattle.unit.specs.Unit.{mostRecords}
 use Rattle.unit.specs.Listed.{refused}
 use Rattle.unit.specs.declared.Unit.{Unit}
 use Rattle.unit.specs.declared.State.{State}
 use Rattle.plan.specs.Lent.{lentRefusal}
-use Rattle.plan.specs.Plan.{planOf}
+use Rattle.plan.specs.Plan.{planOf, fromKind}
 use Rattle.plan.specs.code.Ready.{ReadyPlan}
 use Rattle.plan.specs.declared.read.Plan.{Plan}
 use Rattle.plan.specs.declared.read.Planned.{Planned}
@@ -22,6 +24,20 @@ use Rattle.plan.specs.declared.read.Reading.{Reading}
 use Rattle.plan.proofs.PlanLaws.{plan-taken, plan-ready}
 use Rattle.plan.proofs.StateLaws.{lent-taken}
 use Rattle.record.specs.Record.{stepBy, withRoom, stepOf, recordOf}
+use Rattle.record.specs.code.Frame.{FrameOf, readStep}
+
+-- ---- a line and its frame
+
+module _ (u : Unit) (reference symbols counts : List ℕ) (state : State) where
+  -- a well-formed line says what its frame says
+  pub frame-reads : (line frame : List ℕ) → FrameOf line frame → fromKind u reference symbols counts state frame ≡ planOf u reference symbols counts state line
+  unfolding planOf
+  frame-reads line frame f = rw (f .bytes, f .well-formed)
+
+  -- what was read of a frame, as a step
+  pub read-step : (frame : List ℕ) {r : Reading} → r ≡ fromKind u reference symbols counts state frame → readStep u reference symbols counts state frame ≡ stepBy u reference frame state (r .state) (r .planned)
+  unfolding readStep
+  read-step frame e = rw (← e)
 
 -- ---- which test decides
 
@@ -31,11 +47,15 @@ module _ (u : Unit) (reference symbols counts : List ℕ) (state : State) {n : �
   unfolding recordOf stepOf
   lent-refused line room h = rw (← e) (simp (ne-eqb n fine h))
 
-  -- it is accepted: the line and the room decide
-  pub lent-accepted : (line : List ℕ) (room : ℕ) {r : Reading} → n ≡ fine → r ≡ planOf u reference symbols counts state line
-      → recordOf u reference symbols counts state line room ≡ withRoom room (stepBy u reference (unhex line) state (r .state) (r .planned))
-  unfolding recordOf stepOf
-  lent-accepted line room h f = rw (← e, ← f) (simp (eq-eqb n fine h))
+  -- it is accepted: a line that is not well formed is refused by 1
+  pub call-malformed : (line : List ℕ) (room : ℕ) → n ≡ fine → lineOf line ≡ Malformed → recordOf u reference symbols counts state line room ≡ refused malformed
+  unfolding recordOf stepOf planOf
+  call-malformed line room h w = rw (← e, w) (simp (eq-eqb n fine h))
+
+  -- of another its frame and the room decide
+  pub call-framed : (line : List ℕ) (room : ℕ) {size : ℕ} → n ≡ fine → lineOf line ≡ Frame size → recordOf u reference symbols counts state line room ≡ withRoom room (readStep u reference symbols counts state (unhex line))
+  unfolding recordOf stepOf planOf readStep
+  call-framed line room h w = rw (← e, w) (simp (eq-eqb n fine h))
 
   -- ---- what is left for the writing
 
@@ -43,9 +63,10 @@ module _ (u : Unit) (reference symbols counts : List ℕ) (state : State) {n : �
   pub number-fits : n ≡ fine → state .number < mostRecords
   number-fits h = let l = lent-taken u (length reference) (length symbols) counts state (sym e ∙ h) in omega (arith, l .in-count, l .unit .records)
 
-  -- a line that was accepted is ready to be written
-  pub line-ready : (line : List ℕ) {r : Reading} {p : Plan} → n ≡ fine → r ≡ planOf u reference symbols counts state line → r .planned ≡ Whole p → ReadyPlan u reference (unhex line) p
-  line-ready line {r} {p} h f g =
+  -- a frame that was accepted is ready to be written
+  pub frame-ready : (line frame : List ℕ) {r : Reading} {p : Plan} → n ≡ fine → FrameOf line frame → r ≡ fromKind u reference symbols counts state frame → r .planned ≡ Whole p → ReadyPlan u reference frame p
+  frame-ready line frame {r} {p} h f q g =
       let l = lent-taken u (length reference) (length symbols) counts state (sym e ∙ h) in
-      plan-ready u reference symbols counts state line p (r .state) (l .unit)
-      (plan-taken u reference symbols counts state line p (r .state) (sym f ∙ ap (λ (x : Planned). record { planned = x; state = r .state }) g))
+      rw (f .bytes)
+      (plan-ready u reference symbols counts state line p (r .state) (l .unit)
+      (plan-taken u reference symbols counts state line p (r .state) (sym (q ∙ frame-reads u reference symbols counts state line frame f) ∙ ap (λ (x : Planned). record { planned = x; state = r .state }) g)))

@@ -15,7 +15,7 @@ use Rattle.frame.specs.Hex.{Bytes, unhex}
 use Rattle.frame.specs.Line.{lineDigits, lineEnd, lineOf}
 use Rattle.frame.specs.Field.{bigAt}
 use Rattle.frame.specs.declared.line.Line.the-variants.{Frame, Malformed}
-use Rattle.frame.proofs.HexLaws.{by-test, byte-lt}
+use Rattle.frame.proofs.HexLaws.{by-test}
 use Rattle.frame.proofs.LineLaws.{line-too-long, line-unended}
 use Rattle.unit.specs.State.{subsequences}
 use Rattle.unit.specs.Listed.{mostListed, leastListed, listedHead, Step, refused, accepted}
@@ -162,12 +162,12 @@ module _ (u : UnitOf) (reference symbols counts : List ℕ) (state : State) (lin
   module _ (q : Placed) where
     pub said-first : p .first ≡ Aligned q → SegmentAccepted u reference (unhex line) q × (q .position ≡ bigAt 4 (unhex line) 1)
     said-first e =
-        let a = first-aligned u reference (unhex line) (byte-lt line) (taken .lent .unit) q 5 p (said-taken .blocks) e in
+        let a = first-aligned u reference (unhex line) (taken .lent .unit) q 5 p (said-taken .blocks) e in
         (a .0, a .1 ∙ said-taken .pos-is)
 
     pub said-second : p .second ≡ Aligned q → SegmentAccepted u reference (unhex line) q × (q .position ≡ mappingPos (bigAt 4 (unhex line) 1) (p .link .mate))
     said-second e =
-        let a = second-aligned u reference (unhex line) (byte-lt line) (taken .lent .unit) q 5 p (said-taken .blocks) e in
+        let a = second-aligned u reference (unhex line) (taken .lent .unit) q 5 p (said-taken .blocks) e in
         (a .0, a .1 ∙ ap (λ (pos : ℕ). mappingPos pos (p .link .mate)) (said-taken .pos-is))
 
     pub said-aligned : AlignedIn p q → SegmentAccepted u reference (unhex line) q

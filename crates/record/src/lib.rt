@@ -8,14 +8,18 @@ use unit::State;
 use unit::Unit;
 use unit::listed::ListedLine;
 ghost use mathlib.Core.Path.{_≡_};
-ghost use Prim.Native.Nat.{_<_};
+ghost use mathlib.Core.List.{List};
+ghost use Prim.Native.Nat.{ℕ, _<_};
 ghost use lib.ListN.{length};
-ghost use Rattle.frame.specs.Hex.{unhex};
+ghost use Rattle.refusal.specs.Numbers.{fine};
 ghost use Rattle.unit.specs.Unit.{mostRecords};
+ghost use Rattle.plan.specs.Lent.{lentRefusal};
 ghost use Rattle.plan.specs.code.Ready.{ReadyPlan};
 ghost use Rattle.plan.specs.declared.read.Planned.the-variants.{Whole};
 ghost use Rattle.record.specs.Record.{recordOf, refusedCall, recorded, output, withRoom, stepBy};
+ghost use Rattle.record.specs.code.Frame.{FrameOf, readStep};
 
+mod sized;
 mod write;
 
 // How many bytes were written, the 0A among them; or the refusal's number.
@@ -46,14 +50,14 @@ fn settle(
     reference: &[u8],
     state: State,
     moved: State,
-    line: &[u8],
+    frame: &[u8],
     out: &mut [u8],
     p: Plan,
 ) -> Recorded
-    requires { ⌜ ReadyPlan unit (now reference) (unhex (now line)) p ⌝ }
+    requires { ⌜ ReadyPlan unit (now reference) (now frame) p ⌝ }
     requires { ⌜ state .number < mostRecords ⌝ }
-    ensures { λ r. ⌜ r ≡ recorded state (withRoom (length (now (out .entry))) (stepBy unit (now (reference .entry)) (unhex (now (line .entry))) state moved (Whole p))) ⌝ }
-    ensures { λ _. ⌜ now (out .exit) ≡ output (now (out .entry)) (withRoom (length (now (out .entry))) (stepBy unit (now (reference .entry)) (unhex (now (line .entry))) state moved (Whole p))) ⌝ }
+    ensures { λ r. ⌜ r ≡ recorded state (withRoom (length (now (out .entry))) (stepBy unit (now (reference .entry)) (now (frame .entry)) state moved (Whole p))) ⌝ }
+    ensures { λ _. ⌜ now (out .exit) ≡ output (now (out .entry)) (withRoom (length (now (out .entry))) (stepBy unit (now (reference .entry)) (now (frame .entry)) state moved (Whole p))) ⌝ }
 {
     let first = p.first;
     let second = p.second;
@@ -63,7 +67,7 @@ fn settle(
     }
     let mut next = moved;
     next.number = state.number + 1;
-    let end = write::write(out, unit, reference, line, state.number, next, p);
+    let end = write::write(out, unit, reference, frame, state.number, next, p);
     out[end] = Line::END;
     Recorded {
         answer: Answer::Listed(end + 1),
@@ -71,7 +75,31 @@ fn settle(
     }
 }
 
-// One record: what is lent is checked, then the whole line, then the room; only then is the 04 line laid.
+// A frame of a record line: it is checked whole, then the room; only then is the 04 line laid.
+fn of_frame(
+    unit: Unit,
+    reference: &[u8],
+    symbols: &[u32],
+    counts: &[u32],
+    state: State,
+    frame: &[u8],
+    out: &mut [u8],
+) -> Recorded
+    requires { ⌜ lentRefusal unit (length (now reference)) (length (now symbols)) (now counts) state ≡ fine ⌝ }
+    requires { ⌜ ((line : List ℕ) × FrameOf line (now frame)) ⌝ }
+    ensures { λ r. ⌜ r ≡ recorded state (withRoom (length (now (out .entry))) (readStep unit (now (reference .entry)) (now (symbols .entry)) (now (counts .entry)) state (now (frame .entry)))) ⌝ }
+    ensures { λ _. ⌜ now (out .exit) ≡ output (now (out .entry)) (withRoom (length (now (out .entry))) (readStep unit (now (reference .entry)) (now (symbols .entry)) (now (counts .entry)) state (now (frame .entry)))) ⌝ }
+{
+    let reading = read::read(unit, reference, symbols, counts, state, frame);
+    let planned = reading.planned;
+    let moved = reading.state;
+    match planned {
+        Planned::Refused(k) => refused(k, state),
+        Planned::Whole(p) => settle(unit, reference, state, moved, frame, out, p),
+    }
+}
+
+// One record: what is lent is checked, then the line's digits, then what the frame says.
 pub fn record(
     unit: Unit,
     reference: &[u8],
@@ -88,11 +116,17 @@ pub fn record(
     if n != refusal::FINE {
         return refused(n, state);
     }
-    let reading = read::read(unit, reference, symbols, counts, state, line);
-    let planned = reading.planned;
-    let moved = reading.state;
-    match planned {
-        Planned::Refused(k) => refused(k, state),
-        Planned::Whole(p) => settle(unit, reference, state, moved, line, out, p),
+    match frame::line::line_of(line) {
+        Line::Malformed => refused(refusal::MALFORMED, state),
+        Line::Frame(size) => sized::of_line(
+            unit,
+            reference,
+            symbols,
+            counts,
+            state,
+            line,
+            out,
+            size,
+        ),
     }
 }

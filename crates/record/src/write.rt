@@ -7,12 +7,11 @@ use unit::Unit;
 use unit::kind::Kind;
 use unit::listed::ListedLine;
 use writing::lay::put_bytes;
-use writing::lay::put_u16;
 ghost use mathlib.Core.Path.{_≡_};
 ghost use mathlib.Core.List.{_++_};
 ghost use Prim.Native.Nat.{_+_, _*_, _≤_};
 ghost use lib.ListN.{length};
-ghost use Rattle.frame.specs.Hex.{unhex, be};
+ghost use Rattle.frame.specs.Hex.{be};
 ghost use Rattle.writing.specs.Lay.{Laid};
 ghost use Rattle.unit.specs.Kinds.{kindListed};
 ghost use Rattle.unit.specs.Listed.{words, listedHead};
@@ -20,17 +19,27 @@ ghost use Rattle.plan.specs.code.Ready.{ReadyPlan};
 ghost use Rattle.record.specs.Record.{linkBytes, listedBytes};
 
 // The indexes, two bytes each.
-fn put_indexes(out: &mut [u8], at: usize, index: [u32; State::SUBSEQUENCES]) -> usize
-    requires { ⌜ at + 2 * length (words index) ≤ length (now out) ⌝ }
-    ensures { λ r. ⌜ Laid (now (out .entry)) (now (out .exit)) at r (words index) ⌝ }
+fn index_bytes(index: [u32; State::SUBSEQUENCES]) -> [u8; 2 * State::SUBSEQUENCES]
+    ensures { λ r. ⌜ r ≡ words index ⌝ }
 {
-    let mut p = at;
-    let mut i: usize = 0;
-    while i < State::SUBSEQUENCES {
-        p = put_u16(out, p, index[i]);
-        i += 1;
-    }
-    p
+    [
+        (index[0] / 256 % 256) as u8,
+        (index[0] % 256) as u8,
+        (index[1] / 256 % 256) as u8,
+        (index[1] % 256) as u8,
+        (index[2] / 256 % 256) as u8,
+        (index[2] % 256) as u8,
+        (index[3] / 256 % 256) as u8,
+        (index[3] % 256) as u8,
+        (index[4] / 256 % 256) as u8,
+        (index[4] % 256) as u8,
+        (index[5] / 256 % 256) as u8,
+        (index[5] % 256) as u8,
+        (index[6] / 256 % 256) as u8,
+        (index[6] % 256) as u8,
+        (index[7] / 256 % 256) as u8,
+        (index[7] % 256) as u8,
+    ]
 }
 
 // Kind and record number.
@@ -50,9 +59,10 @@ fn put_head(out: &mut [u8], number: u32, next: State) -> usize
     ensures { λ r. ⌜ Laid (now (out .entry)) (now (out .exit)) 0 r (listedHead number next) ⌝ }
 {
     let index = next.index;
-    let bytes = number_bytes(number);
-    let at = put_bytes(out, 0, &bytes);
-    put_indexes(out, at, index)
+    let fields = number_bytes(number);
+    let indexes = index_bytes(index);
+    let at = put_bytes(out, 0, &fields);
+    put_bytes(out, at, &indexes)
 }
 
 // The bytes between the indexes and the segments.
@@ -90,20 +100,20 @@ pub(crate) fn write(
     out: &mut [u8],
     unit: Unit,
     reference: &[u8],
-    line: &[u8],
+    frame: &[u8],
     number: u32,
     next: State,
     p: Plan,
 ) -> usize
-    requires { ⌜ ReadyPlan unit (now reference) (unhex (now line)) p ⌝ }
-    requires { ⌜ 2 * length (listedBytes unit (now reference) (unhex (now line)) number next p) ≤ length (now out) ⌝ }
-    ensures { λ r. ⌜ Laid (now (out .entry)) (now (out .exit)) 0 r (listedBytes unit (now (reference .entry)) (unhex (now (line .entry))) number next p) ⌝ }
+    requires { ⌜ ReadyPlan unit (now reference) (now frame) p ⌝ }
+    requires { ⌜ 2 * length (listedBytes unit (now reference) (now frame) number next p) ≤ length (now out) ⌝ }
+    ensures { λ r. ⌜ Laid (now (out .entry)) (now (out .exit)) 0 r (listedBytes unit (now (reference .entry)) (now (frame .entry)) number next p) ⌝ }
 {
     let first = p.first;
     let second = p.second;
     let a = put_head(out, number, next);
     let b = put_link(out, a, unit, p.pos, p.link);
-    let c = segment_write::write(out, b, line, unit, reference, first);
-    let d = segment_write::write(&mut out[c..], 0, line, unit, reference, second);
+    let c = segment_write::write(out, b, frame, unit, reference, first);
+    let d = segment_write::write(&mut out[c..], 0, frame, unit, reference, second);
     c + d
 }

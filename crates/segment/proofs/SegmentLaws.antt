@@ -51,10 +51,10 @@ pub record SegmentTaken (u : Unit) (reference frame : List ℕ) (p : Segment) (n
 
 module _ (u : Unit) (reference frame : List ℕ) (position : ℕ) where
   module _ (a : AlignedBlock) (r : ReadyBlock (u .class) (u .alphabet) frame a) where
-    aligned-most : segmentLength (placedSegment position a) ≤ mostSegmentBytes
+    aligned-most : ((i : ℕ) → getD frame i 0 < 256) → segmentLength (placedSegment position a) ≤ mostSegmentBytes
     unfolding segmentLength
-    aligned-most =
-        omega (arith, r .text, r .sides .most, ecigar-most (u .class) (u .alphabet) frame (a .block) (r .few) (r .sides .most) (r .sides .fit) (r .sound))
+    aligned-most bytes =
+        omega (arith, r .text, r .sides .most, ecigar-most (u .class) (u .alphabet) frame (a .block) (r .few) (r .sides .most) (r .sides .fit bytes) (r .sound))
 
     module _ (class : OfItsClass (u .class) (a .block)) where
       aligned-text : a .text ≡ length (table92 u frame (placement position a))
@@ -68,9 +68,9 @@ module _ (u : Unit) (reference frame : List ℕ) (position : ℕ) where
           (omega (arith, aligned-text, read-length (u .class) (u .alphabet) frame reference (u .first) position (a .block) fit))
 
   module _ (p : Segment) (next : Cursor) (first : classP ≤ u .class) (last : u .class ≤ classHM) where
-    aligned-taken : (a : AlignedBlock) → ReadyBlock (u .class) (u .alphabet) frame a → placed u reference frame position a ≡ Whole p next → SegmentTaken u reference frame p (next .at)
+    aligned-taken : (a : AlignedBlock) → ((i : ℕ) → getD frame i 0 < 256) → ReadyBlock (u .class) (u .alphabet) frame a → placed u reference frame position a ≡ Whole p next → SegmentTaken u reference frame p (next .at)
     unfolding placed
-    aligned-taken a r q =
+    aligned-taken a bytes r q =
         by-test (eqb (placeRefusal (u .start) (u .end) position (a .taken)) fine)
         (λ s. by-test (eqb (underMatches u reference frame position (a .block)) fine)
         (λ t.
@@ -80,9 +80,9 @@ module _ (u : Unit) (reference frame : List ℕ) (position : ℕ) where
         let class = of-its-class (u .class) (u .alphabet) frame a r first last in
         rw (e, n)
         record {
-          ready = record { class = class; few = r .few; framed = r .framed; sound = r .sound; text = aligned-text a r class };
+          ready = record { class = class; few = r .few; clipped = r .sides .clipped; framed = r .framed; sound = r .sound; text = aligned-text a r class };
           long = aligned-long a r class;
-          most = aligned-most a r;
+          most = aligned-most a r bytes;
           inside = r .inside;
         })
         (λ t. absurd (let w = simp (s, t) at q in let z : _≡_ {A = ℕ} 0 1 = cc in omega arith)))
@@ -94,7 +94,7 @@ module _ (u : Unit) (reference frame : List ℕ) (position : ℕ) where
       where
         by : (x : AlignedRead) → alignedAt (u .class) (u .alphabet) frame at ≡ x → afterBlock u reference frame position x ≡ Whole p next → SegmentTaken u reference frame p (next .at)
         by (aligned.Refused n) e z = absurd (let y : _≡_ {A = ℕ} 0 1 = cc in omega arith)
-        by (aligned.Whole a) e z = aligned-taken a (block-ready (u .class) (u .alphabet) frame bytes a at e) z
+        by (aligned.Whole a) e z = aligned-taken a bytes (block-ready (u .class) (u .alphabet) frame a at e) z
 
 -- ---- an unaligned segment
 

@@ -80,14 +80,14 @@ module _ (u : Unit) (reference frame : List ℕ) (position : ℕ) (q : Placed) (
       (λ s. absurd (let w = simp s at e in let z : _≡_ {A = ℕ} 0 1 = cc in omega arith))
 
   -- every aligned segment that is read is such a segment, and stands at the position that was given
-  pub placed-accepted : (at : ℕ) → ((i : ℕ) → getD frame i 0 < 256) → classP ≤ u .class → u .class ≤ classHM → placedAt u reference frame position at ≡ Whole (Aligned q) next
+  pub placed-accepted : (at : ℕ) → classP ≤ u .class → u .class ≤ classHM → placedAt u reference frame position at ≡ Whole (Aligned q) next
       → SegmentAccepted u reference frame q × (q .position ≡ position)
   unfolding placedAt
-  placed-accepted at bytes first last e = by (alignedAt (u .class) (u .alphabet) frame at) refl e
+  placed-accepted at first last e = by (alignedAt (u .class) (u .alphabet) frame at) refl e
     where
       by : (x : AlignedRead) → alignedAt (u .class) (u .alphabet) frame at ≡ x → afterBlock u reference frame position x ≡ Whole (Aligned q) next → SegmentAccepted u reference frame q × (q .position ≡ position)
       by (aligned.Refused n) f z = absurd (let y : _≡_ {A = ℕ} 0 1 = cc in omega arith)
-      by (aligned.Whole a) f z = aligned-accepted first last a (block-ready (u .class) (u .alphabet) frame bytes a at f) z
+      by (aligned.Whole a) f z = aligned-accepted first last a (block-ready (u .class) (u .alphabet) frame a at f) z
 
 -- ---- what is read at an aligned place is aligned, and what is read at another is not
 

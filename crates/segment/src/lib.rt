@@ -9,13 +9,13 @@ use block::unaligned;
 use block::unaligned::UnalignedBlock;
 use block::unaligned::UnalignedRead;
 use edits::Block;
-use edits::mapped_length;
+use edits::run_of;
 use frame::field::Cursor;
 use unit::Unit;
 ghost use mathlib.Core.Path.{_≡_};
-ghost use Rattle.frame.specs.Hex.{unhex};
-ghost use Rattle.segment.specs.Segment.{placedAt, placed, plainAt};
+ghost use Rattle.segment.specs.Segment.{placedAt, placed, plainAt, underMatches};
 ghost use Rattle.segment.specs.code.Length.{fixedBytes, segmentLength};
+ghost use Rattle.segment.specs.code.Ready.{Tallied};
 
 // An aligned segment at its position, with the length of its E-CIGAR.
 pub struct Placed {
@@ -65,51 +65,62 @@ pub enum SegmentRead {
 
 // An aligned segment: the block's fields, then its place in the unit (13), then the reference under its matches (10).
 pub fn read_aligned(
-    line: &[u8],
+    frame: &[u8],
     unit: Unit,
     reference: &[u8],
     position: u64,
     c: Cursor,
 ) -> SegmentRead
-    ensures { λ r. ⌜ r ≡ placedAt unit (now (reference .entry)) (unhex (now (line .entry))) position (c .at) ⌝ }
+    ensures { λ r. ⌜ r ≡ placedAt unit (now (reference .entry)) (now (frame .entry)) position (c .at) ⌝ }
 {
-    match read_block(line, unit.class, unit.alphabet, c) {
+    match read_block(frame, unit.class, unit.alphabet, c) {
         AlignedRead::Refused(n) => SegmentRead::Refused(n),
-        AlignedRead::Whole(a) => place_block(line, unit, reference, position, a),
+        AlignedRead::Whole(a) => place_block(frame, unit, reference, position, a),
     }
 }
 
+// Refusal 10 of the reference under the matches of a block that was accepted.
+// Every position that it takes is looked at at once, and the matches alone only where that finds something.
+fn under_matches(frame: &[u8], unit: Unit, reference: &[u8], position: u32, a: AlignedBlock) -> u32
+    requires { ⌜ Tallied (unit .class) (unit .alphabet) (now frame) a ⌝ }
+    ensures { λ r. ⌜ r ≡ underMatches unit (now (reference .entry)) (now (frame .entry)) position (a .block) ⌝ }
+{
+    let found = bases::check_positions(reference, unit.first, unit.alphabet, position, a.taken);
+    if found == refusal::FINE {
+        return refusal::FINE;
+    }
+    let run = run_of(a.block);
+    bases::check_reference(
+        reference,
+        unit.first,
+        unit.alphabet,
+        position,
+        frame,
+        unit.class,
+        run,
+    )
+}
+
 fn place_block(
-    line: &[u8],
+    frame: &[u8],
     unit: Unit,
     reference: &[u8],
     position: u64,
     a: AlignedBlock,
 ) -> SegmentRead
-    ensures { λ r. ⌜ r ≡ placed unit (now (reference .entry)) (unhex (now (line .entry))) position a ⌝ }
+    requires { ⌜ Tallied (unit .class) (unit .alphabet) (now frame) a ⌝ }
+    ensures { λ r. ⌜ r ≡ placed unit (now (reference .entry)) (now (frame .entry)) position a ⌝ }
 {
     let outside = place::refusal_of(unit, position, a.taken);
     if outside != refusal::FINE {
         return SegmentRead::Refused(outside);
     }
     let start = position as u32;
-    let block = a.block;
-    let clips = block.clips;
-    let mapped = mapped_length(block.length, clips);
-    let unknown = bases::check_reference(
-        reference,
-        unit.first,
-        unit.alphabet,
-        start,
-        line,
-        unit.class,
-        block.edits_at,
-        block.edits,
-        mapped,
-    );
+    let unknown = under_matches(frame, unit, reference, start, a);
     if unknown != refusal::FINE {
         return SegmentRead::Refused(unknown);
     }
+    let block = a.block;
     let whole = Placed {
         block,
         position: start,
@@ -120,10 +131,10 @@ fn place_block(
 }
 
 // An unaligned segment.
-pub fn read_unaligned(line: &[u8], unit: Unit, c: Cursor) -> SegmentRead
-    ensures { λ r. ⌜ r ≡ plainAt unit (unhex (now (line .entry))) (c .at) ⌝ }
+pub fn read_unaligned(frame: &[u8], unit: Unit, c: Cursor) -> SegmentRead
+    ensures { λ r. ⌜ r ≡ plainAt unit (now (frame .entry)) (c .at) ⌝ }
 {
-    match unaligned::read(line, unit.alphabet, c) {
+    match unaligned::read(frame, unit.alphabet, c) {
         UnalignedRead::Refused(n) => SegmentRead::Refused(n),
         UnalignedRead::Whole(u) => {
             let next = u.next;

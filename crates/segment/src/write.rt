@@ -9,7 +9,7 @@ ghost use mathlib.Core.Path.{_≡_};
 ghost use mathlib.Core.List.{_++_};
 ghost use Prim.Native.Nat.{_+_, _*_, _≤_};
 ghost use lib.ListN.{length};
-ghost use Rattle.frame.specs.Hex.{be, unhex};
+ghost use Rattle.frame.specs.Hex.{be};
 ghost use Rattle.writing.specs.Lay.{Laid};
 ghost use Rattle.segment.specs.Segment.{alignedBytes, unalignedBytes, segmentBytes};
 ghost use Rattle.segment.specs.code.Ready.{Ready, ReadyAligned, ReadyUnaligned};
@@ -18,18 +18,18 @@ ghost use Rattle.segment.specs.code.Ready.{Ready, ReadyAligned, ReadyUna
 pub fn write(
     out: &mut [u8],
     at: usize,
-    line: &[u8],
+    frame: &[u8],
     unit: Unit,
     reference: &[u8],
     segment: Segment,
 ) -> usize
-    requires { ⌜ Ready unit (unhex (now line)) segment ⌝ }
-    requires { ⌜ at + 2 * length (segmentBytes unit (now reference) (unhex (now line)) segment) ≤ length (now out) ⌝ }
-    ensures { λ r. ⌜ Laid (now (out .entry)) (now (out .exit)) at r (segmentBytes unit (now (reference .entry)) (unhex (now (line .entry))) segment) ⌝ }
+    requires { ⌜ Ready unit (now frame) segment ⌝ }
+    requires { ⌜ at + 2 * length (segmentBytes unit (now reference) (now frame) segment) ≤ length (now out) ⌝ }
+    ensures { λ r. ⌜ Laid (now (out .entry)) (now (out .exit)) at r (segmentBytes unit (now (reference .entry)) (now (frame .entry)) segment) ⌝ }
 {
     match segment {
-        Segment::Aligned(p) => write_aligned(out, at, line, unit, reference, p),
-        Segment::Unaligned(s) => write_unaligned(out, at, line, unit, s),
+        Segment::Aligned(p) => write_aligned(out, at, frame, unit, reference, p),
+        Segment::Unaligned(s) => write_unaligned(out, at, frame, unit, s),
         Segment::Absent => at,
     }
 }
@@ -52,14 +52,14 @@ fn head(position: u32, rcomp: u32, bases: u32) -> [u8; 7]
 fn write_aligned(
     out: &mut [u8],
     at: usize,
-    line: &[u8],
+    frame: &[u8],
     unit: Unit,
     reference: &[u8],
     p: Placed,
 ) -> usize
-    requires { ⌜ ReadyAligned unit (unhex (now line)) p ⌝ }
-    requires { ⌜ at + 2 * length (alignedBytes unit (now reference) (unhex (now line)) p) ≤ length (now out) ⌝ }
-    ensures { λ r. ⌜ Laid (now (out .entry)) (now (out .exit)) at r (alignedBytes unit (now (reference .entry)) (unhex (now (line .entry))) p) ⌝ }
+    requires { ⌜ ReadyAligned unit (now frame) p ⌝ }
+    requires { ⌜ at + 2 * length (alignedBytes unit (now reference) (now frame) p) ≤ length (now out) ⌝ }
+    ensures { λ r. ⌜ Laid (now (out .entry)) (now (out .exit)) at r (alignedBytes unit (now (reference .entry)) (now (frame .entry)) p) ⌝ }
 {
     let block = p.block;
     let class = unit.class;
@@ -73,23 +73,23 @@ fn write_aligned(
         unit.first,
         alphabet,
         p.position,
-        line,
+        frame,
         class,
         block,
     );
     let c = put_u16(out, b, p.text);
-    ecigar::text::write(out, c, line, class, alphabet, block)
+    ecigar::text::write(out, c, frame, class, alphabet, block)
 }
 
-fn write_unaligned(out: &mut [u8], at: usize, line: &[u8], unit: Unit, s: UnalignedBlock) -> usize
-    requires { ⌜ ReadyUnaligned (unhex (now line)) s ⌝ }
-    requires { ⌜ at + 2 * length (unalignedBytes unit (unhex (now line)) s) ≤ length (now out) ⌝ }
-    ensures { λ r. ⌜ Laid (now (out .entry)) (now (out .exit)) at r (unalignedBytes unit (unhex (now (line .entry))) s) ⌝ }
+fn write_unaligned(out: &mut [u8], at: usize, frame: &[u8], unit: Unit, s: UnalignedBlock) -> usize
+    requires { ⌜ ReadyUnaligned (now frame) s ⌝ }
+    requires { ⌜ at + 2 * length (unalignedBytes unit (now frame) s) ≤ length (now out) ⌝ }
+    ensures { λ r. ⌜ Laid (now (out .entry)) (now (out .exit)) at r (unalignedBytes unit (now (frame .entry)) s) ⌝ }
 {
     let start = s.at;
     let end = start + s.length as usize;
     let fields = head(0, 0, s.length);
     let a = put_bytes(out, at, &fields);
-    let b = bases::put_letters(out, a, line, unit.alphabet, start, end);
+    let b = bases::letters::put_letters(out, a, frame, unit.alphabet, start, end);
     put_u16(out, b, 0)
 }

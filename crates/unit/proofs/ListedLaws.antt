@@ -1,15 +1,15 @@
 -- The laws of an 04 line's head: how many bytes it has, that each is below 256, and its indexes one after the other.
 -- Assumes nothing.
-use mathlib.Core.Path.{_≡_, refl}
+use mathlib.Core.Path.{_≡_, refl, _∙_}
 use mathlib.Core.List.{List, [], _∷_, _++_, append-assoc}
-use Prim.Native.Nat.{ℕ, _+_, _*_, _<_, _≤_}
+use Prim.Native.Nat.{ℕ, _+_, _*_, _/_, _%_, _<_, _≤_}
+use native.Mathlib.Nat.{div-one}
 use native.Mathlib.Numerals.{add-one}
 use native.Mathlib.Omega.{arith}
 use lib.ListN.{length, getD, drop, length-append, drop-of-length-le}
 use lib.Seq.{drop-cons}
 use Rattle.frame.specs.Hex.{Bytes, be}
 use Rattle.frame.proofs.HexLaws.{length-be, bytes-be, bytes-append}
-use Rattle.writing.proofs.LayLaws.{Rest, rest-room}
 use Rattle.unit.specs.Kinds.{kindListed}
 use Rattle.unit.specs.Listed.{words, listedHead}
 use Rattle.unit.specs.declared.State.{State}
@@ -38,20 +38,26 @@ bytes-head number next =
     (bytes-append (be 2 number) _ (bytes-be 2 number)
     (bytes-words (next .index))))
 
--- ---- the indexes that are left
+-- ---- the indexes, one after the other
 
 -- the next one, then what is left
-pub words-on : {n : ℕ} (xs : List ℕ) (i : ℕ) → length xs ≡ n → i < n → words (drop i xs) ≡ be 2 (getD xs i 0) ++ words (drop (i + 1) xs)
+words-on : {n : ℕ} (xs : List ℕ) (i : ℕ) → length xs ≡ n → i < n → words (drop i xs) ≡ be 2 (getD xs i 0) ++ words (drop (i + 1) xs)
 unfolding words
 words-on xs i e h = rw (drop-cons xs i 0 (omega arith), add-one)
 
 -- none is left
-pub words-end : {n : ℕ} (xs : List ℕ) (i : ℕ) → length xs ≡ n → n ≤ i → words (drop i xs) ≡ []
+words-end : {n : ℕ} (xs : List ℕ) (i : ℕ) → length xs ≡ n → n ≤ i → words (drop i xs) ≡ []
 unfolding words
 words-end xs i e h = rw (drop-of-length-le xs {i = i} (omega arith))
 
--- there is room for the next one
-pub words-room : {l l₀ : List ℕ} {p p₀ n : ℕ} (xs : List ℕ) (i : ℕ) → Rest l p (words (drop i xs)) l₀ p₀ (words xs) → length xs ≡ n → i < n
-    → p₀ + 2 * length (words xs) ≤ length l₀ → p + 4 ≤ length l
-words-room xs i r e h room =
-    let q = rest-room (be 2 (getD xs i 0)) (words (drop (i + 1) xs)) r (words-on xs i e h) room in omega (arith, length-be 2 (getD xs i 0))
+two-bytes : (n : ℕ) → be 2 n ≡ (n / 256 % 256) ∷ (n % 256) ∷ []
+unfolding be
+two-bytes n = rw div-one
+
+-- eight of them, byte by byte
+pub words-eight : (xs : List ℕ) → length xs ≡ 8 → words xs
+    ≡ (getD xs 0 0 / 256 % 256) ∷ (getD xs 0 0 % 256) ∷ (getD xs 1 0 / 256 % 256) ∷ (getD xs 1 0 % 256) ∷ (getD xs 2 0 / 256 % 256) ∷ (getD xs 2 0 % 256) ∷ (getD xs 3 0 / 256 % 256) ∷ (getD xs 3 0 % 256) ∷ (getD xs 4 0 / 256 % 256) ∷ (getD xs 4 0 % 256) ∷ (getD xs 5 0 / 256 % 256) ∷ (getD xs 5 0 % 256) ∷ (getD xs 6 0 / 256 % 256) ∷ (getD xs 6 0 % 256) ∷ (getD xs 7 0 / 256 % 256) ∷ (getD xs 7 0 % 256) ∷ []
+words-eight xs e =
+    words-on xs 0 e (omega arith)
+    ∙ rw (words-on xs 1 e (omega arith), words-on xs 2 e (omega arith), words-on xs 3 e (omega arith), words-on xs 4 e (omega arith), words-on xs 5 e (omega arith), words-on xs 6 e (omega arith), words-on xs 7 e (omega arith), words-end xs 8 e (omega arith))
+    (simp two-bytes)

@@ -3,7 +3,8 @@ use mathlib.Core.Path.{refl}
 use Rattle.bases.proofs.BasesLaws.{laid-none-of, room-letter, laid-letter-of}
 use native.Mathlib.Omega.{arith}
 use lib.ListN.{length-append}
-use Rattle.bases.proofs.ReferenceLaws.{laid-letter, length-matched}
+use Rattle.bases.proofs.ReferenceLaws.{length-matched}
+use Rattle.alphabet.proofs.AlphabetLaws.{laid-letter}
 use borrow.Author.Needs.{needs}
 use Rattle.bases.proofs.put_edit.Statement.{statement}
 use Rattle.bases.proofs.put_edit.Tie as tie

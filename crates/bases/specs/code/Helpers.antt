@@ -19,6 +19,15 @@ least a b = cond (ltb a b) a b
 abbrev pub lentBefore : (lent first position : ℕ) → ℕ
 lentBefore lent first position = least (position - first) lent
 
+-- the higher of two numbers
+unfoldable pub higher : (a b : ℕ) → ℕ
+higher a b = cond (ltb a b) b a
+
+-- the highest of a number and of n symbols, from a place on
+unfoldable pub highest : (most : ℕ) (symbols : List ℕ) (at n : ℕ) → ℕ
+highest most symbols at zero = most
+highest most symbols at (suc n) = highest (higher most (getD symbols at 0)) symbols (at + 1) n
+
 -- refusal 10 of n symbols, from a place on
 unfoldable pub symbolsRefusal : (alphabet : ℕ) (symbols : List ℕ) (at n : ℕ) → ℕ
 symbolsRefusal alphabet symbols at zero = fine

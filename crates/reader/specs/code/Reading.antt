@@ -1,5 +1,5 @@
 -- For the code, not for the reader.
--- A reading place: the line and how many bytes of its frame are read.
+-- A reading place: the frame and how many of its bytes are read.
 -- Assumes nothing.
 use mathlib.Core.List.{List}
 use Prim.Native.Nat.{ℕ}
@@ -21,10 +21,10 @@ abbrev pub behind : Field → ℕ → ℕ
 behind (Value v c) at = c .at
 behind Short at = at
 
--- a line, of which nothing is read
+-- a frame, of which nothing is read
 abbrev pub atFront : RefT (List ℕ) → Reader
-atFront line = record { 0 = line; 1 = 0 }
+atFront frame = record { 0 = frame; 1 = 0 }
 
--- the same line, and the place behind the field
+-- the same frame, and the place behind the field
 abbrev pub further : Reader → Field → Reader
 further r f = record { 0 = r .0; 1 = behind f (r .1) }

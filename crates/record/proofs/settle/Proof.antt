@@ -7,7 +7,6 @@ use denote.Ref.{now}
 use borrow.Kind.Array.{good-length, eInt}
 use mir.Syntax.{w32}
 use lib.ListN.{length, length-map, length-set}
-use Rattle.frame.specs.Hex.{unhex}
 use Rattle.writing.proofs.LayLaws.{length-laid}
 use Rattle.unit.specs.Listed.{leastListed}
 use Rattle.unit.specs.State.{subsequences}
@@ -24,7 +23,7 @@ abbrev next : tie.Start → State
 next s = after (s .args .state) (s .args .moved)
 
 abbrev bytes : tie.Start → List ℕ
-bytes s = listedBytes (s .args .unit) (now (s .args .reference)) (unhex (now (s .args .line))) (s .args .state .number) (next s) (s .args .p)
+bytes s = listedBytes (s .args .unit) (now (s .args .reference)) (now (s .args .frame)) (s .args .state .number) (next s) (s .args .p)
 
 eight : (s : tie.Start) → length (s .args .moved .index) ≡ subsequences
 eight s =

@@ -18,19 +18,16 @@ returns c = search (passes, stops)
 cast-start : tie.Need-cast-start
 cast-start c = let h = place-inside _ _ _ _ (sym (c .before .refusal-of .ensures) ∙ c .if1 .left) in omega arith
 
-mapped-length-requires : tie.Need-mapped-length-requires
-mapped-length-requires c κs = search needs
-
-check-reference-requires : tie.Need-check-reference-requires
-check-reference-requires c κs = search needs
+under-matches-requires : tie.Need-under-matches-requires
+under-matches-requires c κs = search needs
 
 returns-2 : tie.Need-returns-2
 unfolding placed
-returns-2 c = rw (← c .before .before .mapped-length .ensures) (search (passes, stops))
+returns-2 c = search (passes, stops)
 
 returns-3 : tie.Need-returns-3
 unfolding placed
-returns-3 c = rw (← c .before .before .before .mapped-length .ensures) (search (passes, stops))
+returns-3 c = search (passes, stops)
 
 pub place-block-spec : {M : Type 1} → statement M
 place-block-spec =
@@ -39,7 +36,6 @@ place-block-spec =
     refusal-of-requires
     returns
     cast-start
-    mapped-length-requires
-    check-reference-requires
+    under-matches-requires
     returns-2
     returns-3)

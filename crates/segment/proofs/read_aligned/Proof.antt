@@ -1,4 +1,6 @@
 -- `segment::read_aligned` meets its contract: what the block was read as picks the case. Assumes nothing.
+use mathlib.Core.Path.{sym, _∙_}
+use Rattle.block.proofs.ReadyLaws.{block-ready}
 use Rattle.segment.proofs.Steps.{blocked, unblocked}
 use Rattle.segment.specs.Segment.{placedAt}
 use borrow.Author.Needs.{needs}
@@ -15,7 +17,9 @@ enum-known-a : tie.Need-enum-known-a
 enum-known-a c = search needs
 
 place-block-requires : tie.Need-place-block-requires
-place-block-requires c κs = search needs
+place-block-requires c κs =
+    let r = block-ready _ _ _ _ _ (sym (c .before .before .before .read-block .ensures) ∙ c .before .a .given .1) in
+    record { framed = r .framed; taken = r .taken }
 
 returns : tie.Need-returns
 unfolding placedAt

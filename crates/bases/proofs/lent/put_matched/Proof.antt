@@ -47,8 +47,8 @@ put-padding-requires c κs =
     let at-start = at-until .before .before .before in
     let s = window-split _ _ _ _ (at-between .between .ensures) (at-least .least .ensures) (at-lent-before .lent-before .ensures) (at-lent-before2 .lent-before2 .ensures) in omega (arith, s .fits, at-until .until .ensures, at-start .pre .1)
 
-put-lent-requires : tie.Need-put-lent-requires
-put-lent-requires c κs =
+put-letters-requires : tie.Need-put-letters-requires
+put-letters-requires c κs =
     let at-put-padding = c .before .before .before in
     let at-lent-before2 = at-put-padding .before .before in
     let at-lent-before = at-lent-before2 .before .before in
@@ -60,15 +60,15 @@ put-lent-requires c κs =
 
 put-padding-requires-2 : tie.Need-put-padding-requires-2
 put-padding-requires-2 c κs =
-    let at-put-lent = c .before .before .before in
-    let at-put-padding = at-put-lent .before .before .before .before in
+    let at-put-letters = c .before .before .before in
+    let at-put-padding = at-put-letters .before .before .before .before in
     let at-lent-before2 = at-put-padding .before .before in
     let at-lent-before = at-lent-before2 .before .before in
     let at-least = at-lent-before .before in
     let at-between = at-least .before in
     let at-until = at-between .before .before .before in
     let at-start = at-until .before .before .before in
-    room-behind (window-split _ _ _ _ (at-between .between .ensures) (at-least .least .ensures) (at-lent-before .lent-before .ensures) (at-lent-before2 .lent-before2 .ensures)) (omega (arith, at-until .until .ensures, at-start .pre .1)) (at-put-padding .put-padding .ensures) _ _ (at-put-lent .put-lent .ensures)
+    room-behind (window-split _ _ _ _ (at-between .between .ensures) (at-least .least .ensures) (at-lent-before .lent-before .ensures) (at-lent-before2 .lent-before2 .ensures)) (omega (arith, at-until .until .ensures, at-start .pre .1)) (at-put-padding .put-padding .ensures) _ _ (at-put-letters .put-letters .ensures)
 
 same-length : tie.Need-same-length
 same-length c = search needs
@@ -76,14 +76,14 @@ same-length c = search needs
 returns-2 : tie.Need-returns-2
 returns-2 c =
     let at-put-padding2 = c .before .before in
-    let at-put-lent = at-put-padding2 .before .before .before .before in
-    let at-put-padding = at-put-lent .before .before .before .before in
+    let at-put-letters = at-put-padding2 .before .before .before .before in
+    let at-put-padding = at-put-letters .before .before .before .before in
     let at-lent-before2 = at-put-padding .before .before in
     let at-lent-before = at-lent-before2 .before .before in
     let at-least = at-lent-before .before in
     let at-between = at-least .before in
     let at-until = at-between .before .before .before in
-    rw (← at-until .until .ensures) (laid-matched _ _ _ _ _ (at-put-padding .put-padding .ensures) (at-put-lent .put-lent .ensures) (at-put-padding2 .put-padding2 .ensures) (window-split _ _ _ _ (at-between .between .ensures) (at-least .least .ensures) (at-lent-before .lent-before .ensures) (at-lent-before2 .lent-before2 .ensures)))
+    rw (← at-until .until .ensures) (laid-matched _ _ _ _ _ (at-put-padding .put-padding .ensures) (at-put-letters .put-letters .ensures) (at-put-padding2 .put-padding2 .ensures) (window-split _ _ _ _ (at-between .between .ensures) (at-least .least .ensures) (at-lent-before .lent-before .ensures) (at-lent-before2 .lent-before2 .ensures)))
 
 pub put-matched-spec : {M : Type 1} → statement M
 put-matched-spec =
@@ -100,7 +100,7 @@ put-matched-spec =
     sub-behind-2
     sub-behind-3
     put-padding-requires
-    put-lent-requires
+    put-letters-requires
     put-padding-requires-2
     same-length
     returns-2)

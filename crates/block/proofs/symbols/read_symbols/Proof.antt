@@ -2,18 +2,16 @@
 use mathlib.Core.Path.{_≡_, refl, sym, _∙_}
 use Prim.Native.Nat.{_≤_}
 use native.Mathlib.Omega.{arith}
-use Rattle.frame.specs.Hex.{unhex}
-use Rattle.frame.proofs.HexLaws.{length-unhex}
 use Rattle.block.specs.Symbols.{symbolsFrom}
 use Rattle.block.proofs.SymbolLaws.{symbols-short, symbols-out, symbols-on, symbols-end}
 use Rattle.block.proofs.symbols.read_symbols.Statement.{statement}
 use Rattle.block.proofs.symbols.read_symbols.Tie as tie
 
 abbrev Inv-loop : tie.InvT-loop
-Inv-loop line letters count size bytes at₀ left₀ at left = (left ≤ count) × (symbolsFrom letters (unhex line) count left at ≡ symbolsFrom letters (unhex line) count count at₀)
+Inv-loop frame letters count size bytes at₀ left₀ at left = (left ≤ count) × (symbolsFrom letters frame count left at ≡ symbolsFrom letters frame count count at₀)
 
 abbrev μ-loop : tie.MeasureT-loop
-μ-loop line letters count size bytes at₀ left₀ at left = left
+μ-loop frame letters count size bytes at₀ left₀ at left = left
 
 size-requires : tie.Need-size-requires Inv-loop μ-loop
 size-requires c κs = tt
@@ -22,10 +20,10 @@ loop-holds : tie.Need-loop-holds Inv-loop μ-loop
 loop-holds c = (omega arith, refl)
 
 returns : tie.Need-returns Inv-loop μ-loop
-returns c = sym (symbols-short _ _ _ _ _ (c .before .loop-test .taken) (rw length-unhex (c .if1 .taken))) ∙ c .before .before .loop .inv .1
+returns c = sym (symbols-short _ _ _ _ _ (c .before .loop-test .taken) (c .if1 .taken)) ∙ c .before .before .loop .inv .1
 
-byte-at-requires : tie.Need-byte-at-requires Inv-loop μ-loop
-byte-at-requires c κs = tt
+shared-slice-read-wide : tie.Need-shared-slice-read-wide Inv-loop μ-loop
+shared-slice-read-wide c = omega arith
 
 wide-requires : tie.Need-wide-requires Inv-loop μ-loop
 wide-requires c κs = tt
@@ -33,12 +31,11 @@ wide-requires c κs = tt
 returns-2 : tie.Need-returns-2 Inv-loop μ-loop
 returns-2 c =
     let at-wide = c .before in
-    let at-byte-at = at-wide .before in
-    let at-if1 = at-byte-at .before in
+    let at-if1 = at-wide .before .before in
     let at-loop-test = at-if1 .before in
     let at-loop = at-loop-test .before in
     let at-size = at-loop .before in
-    sym (symbols-out _ _ _ _ _ (at-loop-test .loop-test .taken) (rw length-unhex (at-if1 .if1 .left)) (rw (← at-size .size .ensures, ← at-byte-at .byte-at .ensures, ← at-wide .wide .ensures) (c .if2 .taken))) ∙ at-loop .loop .inv .1
+    sym (symbols-out _ _ _ _ _ (at-loop-test .loop-test .taken) (at-if1 .if1 .left) (rw (← at-size .size .ensures, ← at-wide .wide .ensures) (c .if2 .taken))) ∙ at-loop .loop .inv .1
 
 add-at : tie.Need-add-at Inv-loop μ-loop
 add-at c = omega arith
@@ -52,12 +49,11 @@ loop-less c = omega arith
 loop-again : tie.Need-loop-again Inv-loop μ-loop
 loop-again c =
     let at-wide = c .before in
-    let at-byte-at = at-wide .before in
-    let at-if1 = at-byte-at .before in
+    let at-if1 = at-wide .before .before in
     let at-loop-test = at-if1 .before in
     let at-loop = at-loop-test .before in
     let at-size = at-loop .before in
-    (omega arith, sym (symbols-on _ _ _ _ _ (at-loop-test .loop-test .taken) (rw length-unhex (at-if1 .if1 .left)) (rw (← at-size .size .ensures, ← at-byte-at .byte-at .ensures, ← at-wide .wide .ensures) (c .if2 .left))) ∙ at-loop .loop .inv .1)
+    (omega arith, sym (symbols-on _ _ _ _ _ (at-loop-test .loop-test .taken) (at-if1 .if1 .left) (rw (← at-size .size .ensures, ← at-wide .wide .ensures) (c .if2 .left))) ∙ at-loop .loop .inv .1)
 
 returns-3 : tie.Need-returns-3 Inv-loop μ-loop
 returns-3 c = sym (symbols-end _ _ _ _ _ (c .loop-test .left)) ∙ c .before .loop .inv .1
@@ -71,7 +67,7 @@ read-symbols-spec =
     size-requires
     loop-holds
     returns
-    byte-at-requires
+    shared-slice-read-wide
     wide-requires
     returns-2
     add-at

@@ -1,20 +1,20 @@
 -- `ecigar::check::check_edits` meets its contract. The loop's invariant: the check of the edits that are left, from here, comes to what the whole comes to. Assumes nothing.
 use native.Mathlib.Omega.{arith}
 use mathlib.Core.Path.{refl, sym, _∙_, _≡_}
-use Rattle.ecigar.proofs.CheckLaws.{ends-room, checkedFrom, check-start, check-short, check-out, check-on, check-end, TallyWithin, within-on}
+use Rattle.ecigar.proofs.CheckLaws.{checkedFrom, check-start, check-short, check-out, check-on, check-end, TallyWithin, within-on}
 use Rattle.edits.proofs.EditLaws.{edit-accepted}
 use mathlib.Core.Logic.{inl}
-use Rattle.frame.specs.Hex.{unhex}
+use borrow.Author.Tests.{ltb-false}
 use Rattle.ecigar.specs.Check.{editsChecked}
 use Rattle.ecigar.proofs.check.check_edits.Statement.{statement}
 use Rattle.ecigar.proofs.check.check_edits.Tie as tie
 
 abbrev Inv-loop : tie.InvT-loop
-Inv-loop line class letters place count mapped step symbols t₀ at₀ left₀ t at left =
-    TallyWithin mapped count left t × (checkedFrom class letters (unhex line) mapped left at t ≡ editsChecked class letters (unhex line) place count mapped)
+Inv-loop frame class letters run step symbols t₀ at₀ left₀ t at left =
+    TallyWithin (run .mapped) (run .edits) left t × (checkedFrom class letters frame (run .mapped) left at t ≡ editsChecked class letters frame (run .«edits_at») (run .edits) (run .mapped))
 
 abbrev μ-loop : tie.MeasureT-loop
-μ-loop line class letters place count mapped step symbols t₀ at₀ left₀ t at left = left
+μ-loop frame class letters run step symbols t₀ at₀ left₀ t at left = left
 
 width-requires : tie.Need-width-requires Inv-loop μ-loop
 width-requires c κs = tt
@@ -41,7 +41,10 @@ returns c =
     sym (check-short _ _ _ _ _ _ _ _ _ (at-width .width .ensures) (at-size .size .ensures) (at-loop-test .loop-test .taken) (sym (c .if1 .taken) ∙ at-ends-within .ends-within .ensures)) ∙ at-loop .loop .inv .1
 
 edit-at-requires : tie.Need-edit-at-requires Inv-loop μ-loop
-edit-at-requires c κs = tt
+edit-at-requires c κs =
+    let at-ends-within = c .before in
+    let at-width = at-ends-within .before .before .before .before .before in
+    rw (← at-width .width .ensures) (ltb-false _ _ (sym (at-ends-within .ends-within .ensures) ∙ c .if1 .left))
 
 refusal-of-requires : tie.Need-refusal-of-requires Inv-loop μ-loop
 refusal-of-requires c κs = tt
@@ -74,12 +77,7 @@ take-edit-requires c κs =
 add-at : tie.Need-add-at Inv-loop μ-loop
 add-at c =
     let at-if1 = c .before .before .before .before .before in
-    let at-ends-within = at-if1 .before in
-    let at-loop = at-ends-within .before .before in
-    let at-width = at-loop .before .before .before in
-    let at-start = at-width .before .before in
-    let whole = sym (at-if1 .if1 .left) ∙ at-ends-within .ends-within .ensures in
-    omega (arith, ends-room (at-start .args .line .now) (at-loop .loop .at) (at-width .width .result) whole)
+    omega (arith, ltb-false, sym (at-if1 .before .ends-within .ensures) ∙ at-if1 .if1 .left)
 
 sub-left : tie.Need-sub-left Inv-loop μ-loop
 sub-left c = omega arith

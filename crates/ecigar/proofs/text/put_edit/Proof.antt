@@ -9,13 +9,13 @@ use Rattle.ecigar.proofs.text.put_edit.Statement.{statement}
 use Rattle.ecigar.proofs.text.put_edit.Tie as tie
 
 put-gap-requires : tie.Need-put-gap-requires
-put-gap-requires c κs = let p = rw (printed-append, length-append) at (c .before .before .pre .1) in omega arith
+put-gap-requires c κs = let p = rw (printed-append, length-append) at (c .before .before .pre .1 .1) in (c .before .before .pre .1 .0, omega arith)
 
 put-mark-requires : tie.Need-put-mark-requires
 put-mark-requires c κs =
     let at-put-gap = c .before .before .before in
     let at-start = at-put-gap .before .before .before in
-    let p = rw (printed-append, length-append) at (at-start .pre .1) in omega (arith, at-put-gap .put-gap .ensures .to, length-laid (at-put-gap .put-gap .ensures))
+    let p = rw (printed-append, length-append) at (at-start .pre .1 .1) in (at-start .pre .0, omega (arith, at-put-gap .put-gap .ensures .to, length-laid (at-put-gap .put-gap .ensures)))
 
 same-length : tie.Need-same-length
 same-length c = search needs

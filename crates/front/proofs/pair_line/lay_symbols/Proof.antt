@@ -4,7 +4,7 @@ use native.Mathlib.Omega.{arith}
 use borrow.Author.Needs.{needs}
 use Rattle.frame.specs.Hex.{unhex}
 use Rattle.front.specs.PairLine.{symbolBytes, pairHead, symbolList}
-use Rattle.front.proofs.StoreLaws.{Left, left-store, left-done}
+use Rattle.frame.proofs.StoreLaws.{Left, left-store, left-done}
 use Rattle.front.proofs.PairLaws.{symbols-fit, symbols-start, symbols-next, symbols-none}
 use Rattle.front.proofs.pair_line.lay_symbols.Statement.{statement}
 use Rattle.front.proofs.pair_line.lay_symbols.Tie as tie

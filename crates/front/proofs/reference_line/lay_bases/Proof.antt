@@ -5,7 +5,7 @@ use native.Mathlib.Omega.{arith}
 use lib.ListN.{drop}
 use borrow.Author.Needs.{needs}
 use Rattle.frame.specs.Hex.{unhex}
-use Rattle.front.proofs.StoreLaws.{Left, left-start, left-store, left-room, left-done}
+use Rattle.frame.proofs.StoreLaws.{Left, left-start, left-store, left-room, left-done}
 use Rattle.front.proofs.ReferenceLaws.{bases-next, bases-none}
 use Rattle.front.proofs.reference_line.lay_bases.Statement.{statement}
 use Rattle.front.proofs.reference_line.lay_bases.Tie as tie

@@ -46,7 +46,6 @@ use denote.Triple.Spec.{Meets, tripleOf}
 use denote.Triple.Table.{entered, cited}
 use denote.Triple.Walked.{says, Stays, stay-ref, stay-none, walkOf, goes-none, goes-ref, Walks, ends-at, walked, walk-meets}
 use denote.Exit.{yes}
-use Rattle.frame.specs.Hex.{unhex}
 use Rattle.frame.specs.Field.{fieldAt}
 use Rattle.frame.specs.declared.field.Field.{Field}
 use Rattle.frame.proofs.field.Field as F
@@ -108,7 +107,7 @@ module _ {M : Type 1} (𝓤 : URA M) (H : Heap 𝓤) (A : Atoms 𝓤) (W : Given
   mach m = T′.lowered (moved m)
 
   abbrev found : Field
-  found = fieldAt (widthBytes w) (unhex (now (h .0))) (h .1)
+  found = fieldAt (widthBytes w) (now (h .0)) (h .1)
 
   abbrev x : RefT Reader × (Width × Unit {0})
   x = (record { ptr = (b, o); name = γ; now = h }, (w, tt))

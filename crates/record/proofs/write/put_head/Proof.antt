@@ -10,24 +10,27 @@ use Rattle.record.proofs.write.put_head.Tie as tie
 
 put-bytes-requires : tie.Need-put-bytes-requires
 unfolding listedHead
-put-bytes-requires c κs = let h = simp length-append at (c .before .before .before .before .before .pre) in rw (c .before .before .number-bytes .ensures) (simp length-append (omega arith))
+put-bytes-requires c κs =
+    let n = c .before .before .before in
+    let h = simp length-append at (n .before .before .before .pre) in
+    rw (n .number-bytes .ensures) (simp length-append (omega arith))
 
-put-indexes-requires : tie.Need-put-indexes-requires
+put-bytes-requires-2 : tie.Need-put-bytes-requires-2
 unfolding listedHead
-put-indexes-requires c κs =
-    let d = c .before .before .before in
-    let e = d .before .before .before in
-    let s = e .before .before .before in
-    room-next (words (s .args .next .index)) (laid-as (e .number-bytes .ensures) (d .put-bytes .ensures)) (rw zero-add (s .pre))
+put-bytes-requires-2 c κs =
+    let d = c .before .before .before .before in
+    let i = d .before .before .before in
+    let n = i .before in
+    rw (i .index-bytes .ensures) (room-next (words _) (laid-as (n .number-bytes .ensures) (d .put-bytes .ensures)) (rw zero-add (n .before .before .before .pre)))
 
 returns : tie.Need-returns
 unfolding listedHead
 returns c =
-    let d = c .before .before in
-    let e = d .before .before .before .before in
-    laid-then (laid-as (e .before .before .before .number-bytes .ensures) (e .put-bytes .ensures)) (d .put-indexes .ensures)
+    let d = c .before .before .before .before .before .before .before in
+    let i = d .before .before .before in
+    laid-then (laid-as (i .before .number-bytes .ensures) (d .put-bytes .ensures)) (laid-as (i .index-bytes .ensures) (c .before .before .put-bytes2 .ensures))
 
 pub put-head-spec : {M : Type 1} → statement M
 put-head-spec =
     tie.close
-    (tie.spec (λ c κs. search needs) (λ c. search needs) put-bytes-requires put-indexes-requires (λ c. search needs) returns)
+    (tie.spec (λ c κs. search needs) (λ c κs. search needs) (λ c. search needs) put-bytes-requires (λ c. search needs) put-bytes-requires-2 (λ c. search needs) returns)

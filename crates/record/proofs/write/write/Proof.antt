@@ -1,11 +1,10 @@
--- `record::write::write` meets its contract: the head, the link and the first segment one after the other, the second part into the rest of the line. Assumes nothing.
+-- `record::write::write` meets its contract: the head and the first segment one after the other, the second part into the rest of the line. Assumes nothing.
 use Prim.Native.Nat.{ℕ, _+_, _*_, _≤_}
 use mathlib.Core.List.{List, _++_}
 use native.Mathlib.Nat.{zero-add}
 use native.Mathlib.Omega.{arith}
 use denote.Ref.{now}
 use lib.ListN.{length, length-append}
-use Rattle.frame.specs.Hex.{unhex}
 use Rattle.writing.proofs.LayLaws.{laid-then, laid-rest, length-laid, room-next}
 use Rattle.unit.specs.Listed.{listedHead}
 use Rattle.segment.specs.Segment.{segmentBytes}
@@ -16,7 +15,7 @@ use Rattle.record.proofs.write.write.Statement.{statement}
 use Rattle.record.proofs.write.write.Tie as tie
 
 abbrev bytes : tie.Start → Segment → List ℕ
-bytes s = segmentBytes (s .args .unit) (now (s .args .reference)) (unhex (now (s .args .line)))
+bytes s = segmentBytes (s .args .unit) (now (s .args .reference)) (now (s .args .frame))
 
 -- room for the four pieces
 room : (s : tie.Start)

@@ -42,7 +42,8 @@ write-requires : tie.Need-write-requires
 unfolding alignedBytes
 write-requires c κs =
     let a = c .before .before .before in
-    room-for-next _ (laid-as (at-head a .head .ensures) (a .put-bytes .ensures)) (start (at-head a) .pre .1) (simp (length-append, length-be) (omega arith))
+    let g = start (at-head a) .pre .0 in
+    ((g .clipped, g .framed), room-for-next _ (laid-as (at-head a .head .ensures) (a .put-bytes .ensures)) (start (at-head a) .pre .1) (simp (length-append, length-be) (omega arith)))
 
 put-u16-requires : tie.Need-put-u16-requires
 unfolding alignedBytes

@@ -1,8 +1,7 @@
 -- `segment::write::write_unaligned` meets its contract: the head, the letters and no E-CIGAR, each right behind the last. Assumes nothing.
 use native.Mathlib.Omega.{arith}
-use denote.Ref.{now}
 use lib.ListN.{length-append}
-use Rattle.frame.proofs.HexLaws.{length-unhex, length-be}
+use Rattle.frame.proofs.HexLaws.{length-be}
 use Rattle.writing.proofs.LayLaws.{laid-as, laid-then}
 use Rattle.bases.proofs.ReferenceLaws.{length-letters}
 use Rattle.segment.specs.Segment.{unalignedBytes}
@@ -28,7 +27,7 @@ cast-end : tie.Need-cast-end
 cast-end c = search needs
 
 add-end : tie.Need-add-end
-add-end c = let s = c .before .before .before in omega (arith, length-unhex (now (s .args .line)), s .pre .0 .framed)
+add-end c = let s = c .before .before .before in omega (arith, s .pre .0 .framed)
 
 head-requires : tie.Need-head-requires
 head-requires c κs = search needs
@@ -48,7 +47,7 @@ unfolding unalignedBytes
 put-letters-requires c κs =
     let a = c .before .before .before in
     let s = start (at-head a) in
-    (omega arith, rw (so-many (s .args .s .at) (s .args .s .length)) (room-for-next _ (laid-as (at-head a .head .ensures) (a .put-bytes .ensures)) (s .pre .1) (simp (length-append, length-be, length-letters) (omega arith))))
+    ((omega arith, s .pre .0 .framed), rw (so-many (s .args .s .at) (s .args .s .length)) (room-for-next _ (laid-as (at-head a .head .ensures) (a .put-bytes .ensures)) (s .pre .1) (simp (length-append, length-be, length-letters) (omega arith))))
 
 put-u16-requires : tie.Need-put-u16-requires
 unfolding unalignedBytes
