@@ -1,11 +1,21 @@
-//! Links the archive of the proved code and the floor, which lie in the folder that LAMPBUCKLE_BUILD names (scripts/bench).
+//! Links the archive of the proved code and the floor, which lie in the folder that LAMPBUCKLE_BUILD names (scripts/bench), and
+//! the archive of an earlier commit where it lies there too: what needs it is under the condition `before`.
+
+use std::path::Path;
 
 fn main() {
     println!("cargo:rerun-if-env-changed=LAMPBUCKLE_BUILD");
-    let folder = std::env::var("LAMPBUCKLE_BUILD").expect("LAMPBUCKLE_BUILD names the folder of the two archives");
+    println!("cargo:rustc-check-cfg=cfg(before)");
+    let folder = std::env::var("LAMPBUCKLE_BUILD").expect("LAMPBUCKLE_BUILD names the folder of the archives");
     println!("cargo:rustc-link-search=native={folder}");
-    for name in ["lampbuckle", "floor"] {
+    let before = Path::new(&folder).join("libbefore.a").exists();
+    if before {
+        println!("cargo:rustc-cfg=before");
+    }
+    for (name, linked) in [("lampbuckle", true), ("before", before), ("floor", true)] {
         println!("cargo:rerun-if-changed={folder}/lib{name}.a");
-        println!("cargo:rustc-link-lib=static={name}");
+        if linked {
+            println!("cargo:rustc-link-lib=static={name}");
+        }
     }
 }

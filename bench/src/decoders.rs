@@ -1,84 +1,86 @@
-//! The three that are compared: the proved record call, the second decoder, and the floor.
+//! Those that are compared: the proved record call, that of an earlier commit where scripts/bench is given one, the second
+//! decoder, and the floor.
 
 use crate::work::Work;
 use oracle::limits::LISTED_LINE_MAX;
 use std::hint::black_box;
 
-extern "C" {
-    fn lampbuckle_record(
-        unit: *const u32,
-        unit_length: usize,
-        reference: *const u8,
-        reference_length: usize,
-        symbols: *const u32,
-        symbols_length: usize,
-        counts: *const u32,
-        counts_length: usize,
-        state: *mut u32,
-        state_length: usize,
-        line: *const u8,
-        line_length: usize,
-        out: *mut u8,
-        out_length: usize,
-    ) -> i64;
-
-    fn floor_record(line: *const u8, line_length: usize, out: *mut u8, out_length: usize) -> usize;
-}
-
-#[derive(Clone, Copy, PartialEq, Eq)]
-pub enum Decoder {
-    Proved,
-    Second,
-    Floor,
-}
-
-impl Decoder {
-    pub const ALL: [Decoder; 3] = [Decoder::Proved, Decoder::Second, Decoder::Floor];
-
-    pub fn from_name(name: &str) -> Option<Decoder> {
-        Decoder::ALL.into_iter().zip(["proved", "second", "floor"]).find(|(_, known)| *known == name).map(|(d, _)| d)
-    }
-
+#[derive(Clone, Copy)]
+pub struct Decoder {
+    pub name: &'static str,
     /// All records of the work, one after the other; how many bytes were written.
-    pub fn run(self, work: &Work, out: &mut [u8]) -> usize {
-        match self {
-            Decoder::Proved => proved(work, out),
-            Decoder::Second => second(work),
-            Decoder::Floor => floor(work, out),
+    pub run: fn(&Work, &mut [u8]) -> usize,
+}
+
+pub const PROVED: Decoder = Decoder { name: "proved", run: proved };
+
+/// The proved one first: the others are what it is compared with.
+pub const DECODERS: &[Decoder] = &[
+    PROVED,
+    #[cfg(before)]
+    Decoder { name: "before", run: before },
+    Decoder { name: "second", run: second },
+    Decoder { name: "floor", run: floor },
+];
+
+/// `$run` calls `$record`, the record call of an archive as C sees it. A macro, so that the signature is written once for the
+/// two archives, and each is called directly.
+macro_rules! archive {
+    ($run:ident, $record:ident) => {
+        fn $run(work: &Work, out: &mut [u8]) -> usize {
+            extern "C" {
+                fn $record(
+                    unit: *const u32,
+                    unit_length: usize,
+                    reference: *const u8,
+                    reference_length: usize,
+                    symbols: *const u32,
+                    symbols_length: usize,
+                    counts: *const u32,
+                    counts_length: usize,
+                    state: *mut u32,
+                    state_length: usize,
+                    line: *const u8,
+                    line_length: usize,
+                    out: *mut u8,
+                    out_length: usize,
+                ) -> i64;
+            }
+            let mut state = [0u32; 9];
+            let mut written = 0;
+            for line in &work.lines {
+                // Sound: each pointer is that of live memory with as many items as the length says, and no two overlap.
+                let answer = unsafe {
+                    $record(
+                        work.numbers.as_ptr(),
+                        work.numbers.len(),
+                        work.reference.as_ptr(),
+                        work.reference.len(),
+                        work.table.as_ptr(),
+                        work.table.len(),
+                        work.counts.as_ptr(),
+                        work.counts.len(),
+                        state.as_mut_ptr(),
+                        state.len(),
+                        line.as_ptr(),
+                        line.len(),
+                        out.as_mut_ptr(),
+                        out.len(),
+                    )
+                };
+                written += usize::try_from(answer).expect("the record is accepted");
+            }
+            black_box(&out);
+            written
         }
-    }
+    };
 }
 
-fn proved(work: &Work, out: &mut [u8]) -> usize {
-    let mut state = [0u32; 9];
-    let mut written = 0;
-    for line in &work.lines {
-        // Sound: each pointer is that of live memory with as many items as the length says, and no two overlap.
-        let answer = unsafe {
-            lampbuckle_record(
-                work.numbers.as_ptr(),
-                work.numbers.len(),
-                work.reference.as_ptr(),
-                work.reference.len(),
-                work.table.as_ptr(),
-                work.table.len(),
-                work.counts.as_ptr(),
-                work.counts.len(),
-                state.as_mut_ptr(),
-                state.len(),
-                line.as_ptr(),
-                line.len(),
-                out.as_mut_ptr(),
-                out.len(),
-            )
-        };
-        written += usize::try_from(answer).expect("the record is accepted");
-    }
-    black_box(&out);
-    written
-}
+archive!(proved, lampbuckle_record);
+#[cfg(before)]
+archive!(before, before_record);
 
-fn second(work: &Work) -> usize {
+fn second(work: &Work, _: &mut [u8]) -> usize {
     let mut state = vec![0u16; 9];
     let mut written = 0;
     for line in &work.lines {
@@ -98,6 +100,10 @@ fn second(work: &Work) -> usize {
         black_box(&listed);
     }
     written
+}
+
+extern "C" {
+    fn floor_record(line: *const u8, line_length: usize, out: *mut u8, out_length: usize) -> usize;
 }
 
 /// As many digits as the proved call writes for a record of this work.

@@ -1,13 +1,16 @@
-//! bench-records: the record call, the second decoder and the floor, in one run on the same memory. Each figure is the median
+//! bench-records: the record call and those that it is compared with, in one run on the same memory. Each figure is the median
 //! of several rounds, with its quartiles.
 //!
-//! bench-records --count DECODER CASE: one case a hundred times and nothing else, for counting instructions.
+//! bench-records --instructions: some of the cases in instructions, which callgrind (valgrind) counts.
+//!
+//! bench-records --count DECODER CASE TURNS: so many turns of one case and nothing else, for counting.
 
 mod decoders;
 mod work;
 
-use decoders::Decoder;
+use decoders::{Decoder, DECODERS, PROVED};
 use oracle::limits::LISTED_LINE_MAX;
+use std::process::Command;
 use std::time::Instant;
 use work::{Case, Work};
 
@@ -15,7 +18,7 @@ const ROUNDS: usize = 25;
 /// Records of a unit where the number is not what is looked at.
 const RECORDS: u16 = 64;
 
-const CASES: [Case; 14] = [
+const CASES: [Case; 17] = [
     case('P', 1, 150, 0),
     case('P', 2, 150, 0),
     case('M', 1, 150, 0),
@@ -30,10 +33,15 @@ const CASES: [Case; 14] = [
     case('M', 1, 1_000, 1_000),
     case('I', 1, 1_000, 1_000),
     case('I', 2, 1_000, 1_000),
+    case('N', 1, 150, 3),
+    case('N', 1, 1_000, 1_000),
+    Case { alphabet: 1, ..case('M', 1, 150, 3) },
 ];
+/// Places in CASES: those whose instructions are counted.
+const COUNTED: [usize; 5] = [0, 3, 6, 11, 12];
 
 const fn case(class: char, segments: u8, bases: u16, edits: u16) -> Case {
-    Case { class, segments, bases, edits }
+    Case { class, alphabet: 0, segments, bases, edits }
 }
 
 /// The lower quartile, the median and the upper quartile.
@@ -50,17 +58,17 @@ impl Spread {
     }
 }
 
-/// Nanoseconds a record of each round, the decoders in turn within a round.
-fn rounds<const N: usize>(decoders: [Decoder; N], work: &Work) -> [Vec<f64>; N] {
+/// Nanoseconds a record of each round, for each decoder; the decoders in turn within a round.
+fn rounds(decoders: &[Decoder], work: &Work) -> Vec<Vec<f64>> {
     let mut out = vec![0; LISTED_LINE_MAX];
     let records = work.lines.len();
     let turns = (20_000 / records / (work.lines[0].len() / 300 + 1)).max(1);
-    let mut times = [(); N].map(|()| Vec::new());
+    let mut times = vec![Vec::new(); decoders.len()];
     for _ in 0..ROUNDS {
-        for (decoder, times) in decoders.into_iter().zip(&mut times) {
+        for (decoder, times) in decoders.iter().zip(&mut times) {
             let start = Instant::now();
             for _ in 0..turns {
-                decoder.run(work, &mut out);
+                (decoder.run)(work, &mut out);
             }
             times.push(start.elapsed().as_nanos() as f64 / (turns * records) as f64);
         }
@@ -72,19 +80,24 @@ fn ratio(of: &[f64], to: &[f64]) -> Spread {
     Spread::of(of.iter().zip(to).map(|(a, b)| a / b).collect())
 }
 
+/// A row of a table that compares: a cell for each decoder, and one for each ratio.
+fn row(first: &str, figures: impl Iterator<Item = String>, ratios: impl Iterator<Item = String>) {
+    println!("| {first} | {} |", figures.chain(ratios).collect::<Vec<_>>().join(" | "));
+}
+
+fn head(first: &str, unit: &str) {
+    let names = DECODERS.iter().map(|decoder| decoder.name);
+    row(first, names.clone().map(|name| format!("{name}{unit}")), names.skip(1).map(|name| format!("proved/{name}")));
+    println!("{}|", "|---".repeat(2 * DECODERS.len()));
+}
+
 fn compare() {
-    println!("| record | proved, ns | second, ns | floor, ns | proved/second | proved/floor |");
-    println!("|---|---|---|---|---|---|");
+    head("record", ", ns");
     for case in CASES {
-        let times = rounds(Decoder::ALL, &case.work(RECORDS));
-        let [to_second, to_floor] = [&times[1], &times[2]].map(|other| ratio(&times[0], other));
-        let [proved, second, floor] = times.map(|figures| Spread::of(figures).median());
-        println!(
-            "| {} | {proved:.0} | {second:.0} | {floor:.0} | {} | {} |",
-            case.name(),
-            show(&to_second),
-            show(&to_floor)
-        );
+        let times = rounds(DECODERS, &case.work(RECORDS));
+        let medians = times.iter().map(|times| format!("{:.0}", Spread::of(times.clone()).median()));
+        let ratios = times[1..].iter().map(|other| show(&ratio(&times[0], other)));
+        row(&case.name(), medians, ratios);
     }
 }
 
@@ -93,31 +106,67 @@ fn show(spread: &Spread) -> String {
     format!("{median:.2} ({low:.2} to {high:.2})")
 }
 
+fn proved_alone(work: &Work) -> Spread {
+    Spread::of(rounds(&[PROVED], work).concat())
+}
+
 /// The cost of a record as a unit grows, and of a base as a read grows.
 fn growth() {
     println!("\n| records of the unit (M, 150 bases, 3 edits) | ns a record |\n|---|---|");
     for records in [1, 4, 16, 64, 256, 1_024] {
-        let [times] = rounds([Decoder::Proved], &case('M', 1, 150, 3).work(records));
-        println!("| {records} | {} |", show(&Spread::of(times)));
+        println!("| {records} | {} |", show(&proved_alone(&case('M', 1, 150, 3).work(records))));
     }
     println!("\n| bases of the read (P) | ns a record | ns a base more |\n|---|---|---|");
-    let mut before: Option<(u16, f64)> = None;
+    let mut last: Option<(u16, f64)> = None;
     for bases in [1, 10, 100, 250, 500, 1_000] {
-        let [times] = rounds([Decoder::Proved], &case('P', 1, bases, 0).work(RECORDS));
-        let spread = Spread::of(times);
-        let more = before.map_or(String::new(), |(fewer, time)| {
+        let spread = proved_alone(&case('P', 1, bases, 0).work(RECORDS));
+        let more = last.map_or(String::new(), |(fewer, time)| {
             format!("{:.2}", (spread.median() - time) / f64::from(bases - fewer))
         });
         println!("| {bases} | {} | {more} |", show(&spread));
-        before = Some((bases, spread.median()));
+        last = Some((bases, spread.median()));
     }
 }
 
-fn count(decoder: Decoder, case: usize) {
-    let work = CASES[case].work(RECORDS);
+/// What callgrind counts in a run of so many turns: the set-up, and the turns.
+fn collected(decoder: &Decoder, case: usize, turns: u16) -> u64 {
+    let program = std::env::current_exe().expect("the path of this program");
+    let ended = Command::new("valgrind")
+        .args(["--tool=callgrind", "--callgrind-out-file=/dev/null"])
+        .arg(program)
+        .args(["--count", decoder.name, &case.to_string(), &turns.to_string()])
+        .output()
+        .expect("valgrind is on PATH");
+    let log = String::from_utf8_lossy(&ended.stderr);
+    assert!(ended.status.success(), "{log}");
+    let figure = log.lines().find_map(|line| line.split_once("Collected :")?.1.trim().parse().ok());
+    figure.expect("callgrind says what it collected")
+}
+
+/// Two runs differ by their turns alone, each a loop that passes the arguments and calls. Neither the set-up is in the
+/// difference nor the first turn, in which memory is allocated that the later ones use again. Both numbers have one digit:
+/// nothing lies elsewhere for a longer argument. Callgrind's own tally by function is not taken: on aarch64 it shows functions
+/// that call themselves where none does.
+fn instructions() {
+    const FEW: u16 = 2;
+    const MANY: u16 = 4;
+    head("instructions a record", "");
+    for case in COUNTED {
+        let count = |decoder| {
+            let turns = collected(decoder, case, MANY) - collected(decoder, case, FEW);
+            turns as f64 / f64::from((MANY - FEW) * RECORDS)
+        };
+        let counts: Vec<f64> = DECODERS.iter().map(count).collect();
+        let ratios = counts[1..].iter().map(|other| format!("{:.2}", counts[0] / other));
+        row(&CASES[case].name(), counts.iter().map(|count| format!("{count:.0}")), ratios);
+    }
+}
+
+fn count(decoder: &Decoder, case: &Case, turns: u16) {
+    let work = case.work(RECORDS);
     let mut out = vec![0; LISTED_LINE_MAX];
-    for _ in 0..100 {
-        decoder.run(&work, &mut out);
+    for _ in 0..turns {
+        (decoder.run)(&work, &mut out);
     }
 }
 
@@ -128,10 +177,12 @@ fn main() {
             compare();
             growth();
         }
-        ["--count", decoder, case] => count(
-            Decoder::from_name(decoder).expect("proved, second or floor"),
-            case.parse().expect("the number of a case"),
+        ["--instructions"] => instructions(),
+        ["--count", decoder, case, turns] => count(
+            DECODERS.iter().find(|known| known.name == decoder).expect("the name of a decoder"),
+            &CASES[case.parse::<usize>().expect("the place of a case")],
+            turns.parse().expect("a number of turns"),
         ),
-        _ => eprintln!("usage: bench-records [--count proved|second|floor CASE]"),
+        _ => eprintln!("usage: bench-records [--instructions | --count DECODER CASE TURNS]"),
     }
 }

@@ -14,6 +14,7 @@ const BASES: usize = 32_768;
 #[derive(Clone, Copy)]
 pub struct Case {
     pub class: char,
+    pub alphabet: u8,
     pub segments: u8,
     pub bases: u16,
     pub edits: u16,
@@ -45,14 +46,15 @@ impl Work {
 
 impl Case {
     pub fn name(&self) -> String {
-        format!("{}, {} x {} bases, {} edits", self.class, self.segments, self.bases, self.edits)
+        let alphabet = if self.alphabet == 0 { "" } else { ", alphabet 1" };
+        format!("{}{alphabet}, {} x {} bases, {} edits", self.class, self.segments, self.bases, self.edits)
     }
 
     pub fn work(&self, records: u16) -> Work {
         let class = 1 + "PNMI".find(self.class).expect("a class with aligned segments") as u8;
         let unit = UnitNumbers {
             class,
-            alphabet: 0,
+            alphabet: self.alphabet,
             template_segments: self.segments,
             sequence_id: 7,
             first: START,
@@ -60,8 +62,16 @@ impl Case {
             au_end: START + BASES as u32 - 1,
             record_count: records,
         };
-        let numbers =
-            [class.into(), 0, self.segments.into(), 7, unit.first, unit.au_start, unit.au_end, records.into()];
+        let numbers = [
+            class.into(),
+            self.alphabet.into(),
+            self.segments.into(),
+            7,
+            unit.first,
+            unit.au_start,
+            unit.au_end,
+            records.into(),
+        ];
         let lists = self.symbols(records);
         let mut table = vec![0; SUBSEQUENCES * ROW];
         for (row, list) in table.chunks_mut(ROW).zip(&lists) {
