@@ -59,8 +59,9 @@ enum lampbuckle_unit_number {
 /* The pair symbols of all subsequences, one row each: symbol k of subsequence s stands at s * LAMPBUCKLE_SYMBOLS + k. */
 #define LAMPBUCKLE_TABLE (LAMPBUCKLE_SUBSEQUENCES * LAMPBUCKLE_SYMBOLS)
 
-/* A state: the number of the next record, then how many symbols of each subsequence are taken. All 0 before the first record. */
-#define LAMPBUCKLE_STATE (1 + LAMPBUCKLE_SUBSEQUENCES)
+/* A state: the number of the next record, then the indexes: how many symbols of each subsequence are taken. All 0 before the first record. */
+#define LAMPBUCKLE_INDEXES 8
+#define LAMPBUCKLE_STATE (1 + LAMPBUCKLE_INDEXES)
 
 /* What is known of a found file. All 0 before its first byte. */
 #define LAMPBUCKLE_KEEP 5

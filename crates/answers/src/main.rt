@@ -5,7 +5,7 @@ use front::reference_line;
 use front::reference_line::ReferenceLine;
 use front::unit_line;
 use front::unit_line::UnitLine;
-use unit::State;
+use unit::Pairs;
 
 fn show(number: u32) {
     io::print_decimal(1, number as u64);
@@ -21,7 +21,7 @@ fn unit_answer(line: &[u8]) {
 
 // Subsequence 2 of a table of the right shape.
 fn pair_answer(line: &[u8]) {
-    let mut table = [0u32; State::TABLE];
+    let mut table = [0u32; Pairs::TABLE];
     match pair_line::read(line, 2, &mut table) {
         PairLine::Count(_) => show(0),
         PairLine::Refused(n) => show(n),

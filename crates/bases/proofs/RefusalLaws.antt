@@ -2,8 +2,9 @@
 -- Assumes nothing.
 use mathlib.Core.List.{List, [], _∷_}
 use Prim.Native.Nat.{ℕ, zero, suc, _+_, _-_}
-use lib.Dec.{leb, eqb, lit<}
+use lib.Dec.{leb, eqb}
 use Rattle.refusal.specs.Numbers.{fine, FineOrEarly, firstRefusal}
+use Rattle.refusal.proofs.RefusalLaws.{fine-or-early}
 use Rattle.frame.proofs.Tests.{one-of}
 use Rattle.alphabet.specs.Table35.{sizeOf}
 use Rattle.edits.specs.declared.edit.Edit.{Edit}
@@ -14,14 +15,14 @@ use Rattle.bases.specs.declared.places.Places.{Places}
 base-early : (alphabet : ℕ) (reference : List ℕ) (first position : ℕ) → FineOrEarly (baseRefusal alphabet reference first position)
 unfolding baseRefusal
 base-early alphabet reference first position =
-    one-of FineOrEarly (isLent reference first position) _ _ (one-of FineOrEarly (leb (sizeOf alphabet) (lentSymbol reference first position)) _ _ (lit< tt) (lit< tt)) (lit< tt)
+    one-of FineOrEarly (isLent reference first position) _ _ (one-of FineOrEarly (leb (sizeOf alphabet) (lentSymbol reference first position)) _ _ (fine-or-early tt) (fine-or-early tt)) (fine-or-early tt)
 
 first-of-early : (one other : ℕ) → FineOrEarly one → FineOrEarly other → FineOrEarly (firstRefusal one other)
 first-of-early one other h k = one-of FineOrEarly (eqb one fine) _ _ k h
 
 match-early : (alphabet : ℕ) (reference : List ℕ) (first position n : ℕ) → FineOrEarly (matchRefusal alphabet reference first position n)
 unfolding matchRefusal
-match-early alphabet reference first position zero = lit< tt
+match-early alphabet reference first position zero = fine-or-early tt
 match-early alphabet reference first position (suc n) =
     first-of-early _ _ (base-early alphabet reference first position) (match-early alphabet reference first (position + 1) n)
 

@@ -16,6 +16,8 @@ use Rattle.frame.proofs.FieldLaws.{bigAt-lt}
 use Rattle.unit.specs.Unit.{classP, classI, classHM}
 use Rattle.alphabet.specs.Table35.{sizeOf}
 use Rattle.frame.proofs.StepLaws.{past-field, past-refusal}
+use Rattle.taking.specs.Steps.{Steps, refuses}
+use Rattle.taking.proofs.Decoding.{Ends, Any}
 use Rattle.edits.specs.declared.Clips.{Clips}
 use Rattle.edits.specs.declared.Block.{Block}
 use Rattle.edits.specs.Lengths.{mostRead, mostEdits, noClips, softBases, mappedLength}
@@ -30,7 +32,10 @@ use Rattle.ecigar.proofs.OperationLaws.{ClipsFit}
 use Rattle.block.specs.Checked.{lengthIn, lengthAt, rcompIn, rcompAt, countIn, countAt, afterChecked}
 use Rattle.block.specs.Clips.{clipsOf, clipsIn, clipsAt}
 use Rattle.block.specs.Symbols.{symbolsFrom}
-use Rattle.block.specs.Aligned.{blockOf, blockEnd, afterEdits, editsTallied, fromEdits, fromSoft, afterClips, fromClips, fromRcomp, alignedAt}
+use Rattle.block.specs.Aligned.{blockOf, blockEnd, afterEdits, editsTallied, fromEdits, fromSoft, afterClips, fromClips, alignedAt}
+use Rattle.block.specs.Head.{fromRcomp, headAt}
+use Rattle.block.specs.code.Ready.{ReadyHead}
+use Rattle.block.specs.declared.head.BlockHead.{BlockHead}
 use Rattle.block.specs.declared.checked.CheckedField.{CheckedField}
 use Rattle.block.specs.declared.checked.CheckedField.the-variants as field
 use Rattle.block.specs.declared.clips.Clipped.{Clipped}
@@ -240,11 +245,22 @@ module _ (class alphabet : ℕ) (frame : List ℕ) (a : AlignedBlock) where
           (λ symbols room. record { least = one; most = most; soft = g .soft; fit = g .fit; bare = λ e. absurd (omega arith); symbols = symbols; clipped = room })
           (g .inside)
 
-  pub block-ready : (at : ℕ) → alignedAt class alphabet frame at ≡ Whole a → ReadyBlock class alphabet frame a
-  unfolding alignedAt fromRcomp
-  block-ready at q =
-      checked-whole (lengthAt frame at) _ a q
-      (λ readLength next e r.
-      let g = length-got frame at readLength next e in
-      checked-whole (rcompAt frame (next .at)) _ a r
-      (λ rcomp last f z. clips-ready readLength rcomp (last .at) z (g .above) (g .below) (rcomp-got frame (next .at) rcomp last f .inside)))
+-- behind a head that was accepted
+pub block-ready : (class alphabet : ℕ) (frame : List ℕ) (h : BlockHead) (a : AlignedBlock) → ReadyHead frame h → alignedAt class alphabet frame h ≡ Whole a → ReadyBlock class alphabet frame a
+unfolding alignedAt
+block-ready class alphabet frame h a r q = clips-ready class alphabet frame a (h .length) (h .rcomp) (h .next .at) q (r .least) (r .most) (r .inside)
+
+-- ---- every head that is accepted
+
+checked-ends : (P : BlockHead → Type 0) (x : CheckedField) (f : ℕ → Cursor → Steps BlockHead) → ((v : ℕ) (c : Cursor) → x ≡ field.Value v c → Ends Any P (f v c)) → Ends Any P (afterChecked refuses x f)
+checked-ends P (field.Value v c) f h = h v c refl
+checked-ends P (field.Refused n) f h = tt
+
+pub head-ready : (frame : List ℕ) (at : ℕ) → Ends Any (ReadyHead frame) (headAt frame at)
+unfolding headAt fromRcomp
+head-ready frame at =
+    checked-ends (ReadyHead frame) (lengthAt frame at) _
+    (λ readLength next e.
+    let g = length-got frame at readLength next e in
+    checked-ends (ReadyHead frame) (rcompAt frame (next .at)) _
+    (λ rcomp last f. record { least = g .above; most = g .below; inside = rcomp-got frame (next .at) rcomp last f .inside }))

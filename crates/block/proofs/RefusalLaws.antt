@@ -1,16 +1,18 @@
--- A block is refused by a number of document 01's table below 17.
+-- A block is refused by a number of document 01's table but 17.
 -- Assumes nothing.
 use mathlib.Core.List.{List}
 use Prim.Native.Nat.{ℕ, zero, suc, _+_}
-use lib.Dec.{ltb, leb, eqb, lit<}
+use lib.Dec.{ltb, leb, eqb}
 use lib.ListN.{length, getD}
 use Rattle.refusal.specs.Numbers.{Early}
+use Rattle.refusal.proofs.RefusalLaws.{early}
 use Rattle.frame.specs.Field.{fieldAt}
 use Rattle.frame.specs.declared.field.Cursor.{Cursor}
 use Rattle.frame.proofs.Tests.{one-of}
 use Rattle.frame.proofs.StepLaws.{by-field}
 use Rattle.alphabet.specs.Table35.{sizeOf}
 use Rattle.unit.specs.Unit.{classP, classI}
+use Rattle.taking.proofs.Decoding.{Tells}
 use Rattle.edits.specs.Lengths.{mostRead, mostEdits, softBases, mappedLength}
 use Rattle.edits.specs.declared.Clips.{Clips}
 use Rattle.edits.specs.declared.Block.{Block}
@@ -21,7 +23,9 @@ use Rattle.ecigar.proofs.RefusalLaws.{EarlyEdits, check-early}
 use Rattle.block.specs.Checked.{lengthAt, rcompAt, countAt, afterChecked}
 use Rattle.block.specs.Symbols.{symbolsFrom}
 use Rattle.block.specs.Clips.{clipsIn, clipsAt}
-use Rattle.block.specs.Aligned.{afterEdits, editsTallied, fromEdits, fromSoft, afterClips, fromClips, fromRcomp, alignedAt}
+use Rattle.block.specs.Aligned.{afterEdits, editsTallied, fromEdits, fromSoft, afterClips, fromClips, alignedAt}
+use Rattle.block.specs.Head.{fromRcomp, headAt}
+use Rattle.block.specs.declared.head.BlockHead.{BlockHead}
 use Rattle.block.specs.Unaligned.{fromLength, unalignedAt}
 use Rattle.block.specs.declared.checked.CheckedField.{CheckedField}
 use Rattle.block.specs.declared.checked.CheckedField.the-variants as checked
@@ -61,32 +65,32 @@ by-checked P refused (checked.Refused n) f h e k = h n e
 length-early : (frame : List ℕ) (at : ℕ) → EarlyField (lengthAt frame at)
 unfolding lengthAt
 length-early frame at =
-    by-field EarlyField (fieldAt 2 frame at) _ _ (lit< tt, lit< tt)
-    (λ v c. one-of EarlyField (ltb v 1) _ _ (lit< tt, lit< tt) (one-of EarlyField (ltb mostRead v) _ _ (lit< tt, lit< tt) tt))
+    by-field EarlyField (fieldAt 2 frame at) _ _ (early tt)
+    (λ v c. one-of EarlyField (ltb v 1) _ _ (early tt) (one-of EarlyField (ltb mostRead v) _ _ (early tt) tt))
 
 rcomp-early : (frame : List ℕ) (at : ℕ) → EarlyField (rcompAt frame at)
 unfolding rcompAt
-rcomp-early frame at = by-field EarlyField (fieldAt 1 frame at) _ _ (lit< tt, lit< tt) (λ v c. one-of EarlyField (ltb 1 v) _ _ (lit< tt, lit< tt) tt)
+rcomp-early frame at = by-field EarlyField (fieldAt 1 frame at) _ _ (early tt) (λ v c. one-of EarlyField (ltb 1 v) _ _ (early tt) tt)
 
 count-early : (frame : List ℕ) (at : ℕ) → EarlyField (countAt frame at)
 unfolding countAt
-count-early frame at = by-field EarlyField (fieldAt 2 frame at) _ _ (lit< tt, lit< tt) (λ v c. one-of EarlyField (ltb mostEdits v) _ _ (lit< tt, lit< tt) tt)
+count-early frame at = by-field EarlyField (fieldAt 2 frame at) _ _ (early tt) (λ v c. one-of EarlyField (ltb mostEdits v) _ _ (early tt) tt)
 
 symbols-early : (alphabet : ℕ) (frame : List ℕ) (count k at : ℕ) → EarlyField (symbolsFrom alphabet frame count k at)
 unfolding symbolsFrom
 symbols-early alphabet frame count zero at = tt
 symbols-early alphabet frame count (suc k) at =
-    one-of EarlyField (leb (length frame) at) _ _ (lit< tt, lit< tt)
-    (one-of EarlyField (leb (sizeOf alphabet) (getD frame at 0)) _ _ (lit< tt, lit< tt) (symbols-early alphabet frame count k (at + 1)))
+    one-of EarlyField (leb (length frame) at) _ _ (early tt)
+    (one-of EarlyField (leb (sizeOf alphabet) (getD frame at 0)) _ _ (early tt) (symbols-early alphabet frame count k (at + 1)))
 
 clips-early : (frame : List ℕ) (length at : ℕ) → EarlyClips (clipsAt frame length at)
 unfolding clipsAt clipsIn
 clips-early frame length at =
-    by-field EarlyClips (fieldAt 2 frame at) _ _ (lit< tt, lit< tt)
-    (λ ls a. by-field EarlyClips (fieldAt 2 frame (a .at)) _ _ (lit< tt, lit< tt)
-    (λ lh b. by-field EarlyClips (fieldAt 2 frame (b .at)) _ _ (lit< tt, lit< tt)
-    (λ rs c. by-field EarlyClips (fieldAt 2 frame (c .at)) _ _ (lit< tt, lit< tt)
-    (λ rh d. one-of EarlyClips (leb length (ls + rs)) _ _ (lit< tt, lit< tt) tt))))
+    by-field EarlyClips (fieldAt 2 frame at) _ _ (early tt)
+    (λ ls a. by-field EarlyClips (fieldAt 2 frame (a .at)) _ _ (early tt)
+    (λ lh b. by-field EarlyClips (fieldAt 2 frame (b .at)) _ _ (early tt)
+    (λ rs c. by-field EarlyClips (fieldAt 2 frame (c .at)) _ _ (early tt)
+    (λ rh d. one-of EarlyClips (leb length (ls + rs)) _ _ (early tt) tt))))
 
 -- ---- a block
 
@@ -121,12 +125,15 @@ from-clips-early class alphabet frame length rcomp at =
     by (clips.Whole c next) h = soft-early class alphabet frame length rcomp c (next .at)
     by (clips.Refused n) h = h
 
-pub aligned-early : (class alphabet : ℕ) (frame : List ℕ) (at : ℕ) → EarlyBlock (alignedAt class alphabet frame at)
-unfolding alignedAt fromRcomp
-aligned-early class alphabet frame at =
-    by-checked EarlyBlock _ (lengthAt frame at) _ (λ n h. h) (length-early frame at)
-    (λ length next. by-checked EarlyBlock _ (rcompAt frame (next .at)) _ (λ n h. h) (rcomp-early frame (next .at))
-    (λ rcomp last. from-clips-early class alphabet frame length rcomp (last .at)))
+pub aligned-early : (class alphabet : ℕ) (frame : List ℕ) (h : BlockHead) → EarlyBlock (alignedAt class alphabet frame h)
+unfolding alignedAt
+aligned-early class alphabet frame h = from-clips-early class alphabet frame (h .length) (h .rcomp) (h .next .at)
+
+pub head-early : (frame : List ℕ) (at : ℕ) → Tells Early (headAt frame at)
+unfolding headAt fromRcomp
+head-early frame at =
+    by-checked (Tells Early) _ (lengthAt frame at) _ (λ n h. h) (length-early frame at)
+    (λ length next. by-checked (Tells Early) _ (rcompAt frame (next .at)) _ (λ n h. h) (rcomp-early frame (next .at)) (λ rcomp last. tt))
 
 pub unaligned-early : (alphabet : ℕ) (frame : List ℕ) (at : ℕ) → EarlyPlain (unalignedAt alphabet frame at)
 unfolding unalignedAt fromLength

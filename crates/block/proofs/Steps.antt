@@ -1,16 +1,24 @@
 -- The steps of a definition that goes by checked fields, clips and edits: each turns what the code has learnt into the branch that is taken, so that
 -- `search` walks the definition by itself.
 -- Assumes nothing.
-use mathlib.Core.Path.{_≡_}
+use mathlib.Core.Path.{_≡_, refl, sym, ap, _∙_}
 use mathlib.Core.List.{List}
 use Prim.Native.Nat.{ℕ}
+use native.Mathlib.Omega.{arith}
 use Rattle.frame.specs.declared.field.Cursor.{Cursor}
+use Rattle.state.specs.declared.State.{State}
+use Rattle.taking.specs.Steps.{Steps, refuses, Came, came, stopped, cameNumber, decode}
 use Rattle.edits.specs.declared.Clips.{Clips}
 use Rattle.edits.specs.declared.Block.{Block}
 use Rattle.ecigar.specs.declared.check.EditsChecked.{EditsChecked}
 use Rattle.ecigar.specs.declared.check.EditsChecked.the-variants as edits
-use Rattle.block.specs.Checked.{afterChecked}
+use Rattle.taking.proofs.Reading.{Quiet}
+use Rattle.block.specs.Checked.{lengthAt, rcompAt, afterChecked}
 use Rattle.block.specs.Aligned.{afterClips, afterEdits, fromSoft}
+use Rattle.block.specs.Head.{headNumber, fromRcomp, headAt, headMoved}
+use Rattle.block.specs.declared.head.BlockHead.{BlockHead}
+use Rattle.block.specs.declared.head.HeadMoved.{HeadMoved}
+use Rattle.block.specs.declared.head.HeadRead.the-variants as head
 use Rattle.block.specs.declared.checked.CheckedField.{CheckedField}
 use Rattle.block.specs.declared.checked.CheckedField.the-variants.{Value, Refused}
 use Rattle.block.specs.declared.clips.Clipped.{Clipped}
@@ -26,6 +34,45 @@ module _ {A : Type 0} (x : A) (answer field : CheckedField) (refused : ℕ → A
 
   pub field-rejected : (n : ℕ) → answer ≡ field → answer ≡ Refused n → x ≡ refused n → x ≡ afterChecked refused field f
   field-rejected n e h k = rw (← e, h) k
+
+-- the same of a head's steps
+module _ (x : HeadMoved) (symbols counts : List ℕ) (st : State) (answer field : CheckedField) (f : ℕ → Cursor → Steps BlockHead) where
+  pub moved-accepted : (v : ℕ) (c : Cursor) → answer ≡ field → answer ≡ Value v c → x ≡ headMoved st (decode symbols counts st (f v c)) → x ≡ headMoved st (decode symbols counts st (afterChecked refuses field f))
+  moved-accepted v c e h k = rw (← e, h) k
+
+  pub moved-rejected : (n : ℕ) → answer ≡ field → answer ≡ Refused n → x ≡ headMoved st (stopped n) → x ≡ headMoved st (decode symbols counts st (afterChecked refuses field f))
+  unfolding decode
+  moved-rejected n e h k = rw (← e, h) k
+
+-- the answer's number is that of what the steps come to
+pub head-number : (back : State) (x : Came BlockHead) → headNumber (headMoved back x .answer) ≡ cameNumber x
+head-number back (came h next) = refl
+head-number back (stopped n) = refl
+
+-- what the steps of a head came to, by what reading it handed back
+module _ (st : State) (x : Came BlockHead) (m : HeadMoved) (is : m ≡ headMoved st x) where
+  pub head-came : (h : BlockHead) → m .answer ≡ head.Whole h → x ≡ came h (m .state)
+  head-came h e = by x is
+    where
+      by : (y : Came BlockHead) → m ≡ headMoved st y → y ≡ came h (m .state)
+      by (came b next) q = let s : m .state ≡ next = ap (λ (r : HeadMoved). r .state) q in let w : head.Whole b ≡ head.Whole h = sym (ap (λ (r : HeadMoved). r .answer) q) ∙ e in cc
+      by (stopped n) q = absurd (let w : head.Refused n ≡ head.Whole h = sym (ap (λ (r : HeadMoved). r .answer) q) ∙ e in let z : _≡_ {A = ℕ} 0 1 = cc in omega arith)
+
+  pub head-stopped : (n : ℕ) → m .answer ≡ head.Refused n → x ≡ stopped n
+  head-stopped n e = by x is
+    where
+      by : (y : Came BlockHead) → m ≡ headMoved st y → y ≡ stopped n
+      by (came b next) q = absurd (let w : head.Whole b ≡ head.Refused n = sym (ap (λ (r : HeadMoved). r .answer) q) ∙ e in let z : _≡_ {A = ℕ} 0 1 = cc in omega arith)
+      by (stopped k) q = let w : head.Refused k ≡ head.Refused n = sym (ap (λ (r : HeadMoved). r .answer) q) ∙ e in cc
+
+-- no head takes a symbol: no field asks for one
+pub head-quiet : (frame : List ℕ) (at : ℕ) → Quiet (headAt frame at)
+unfolding headAt fromRcomp
+head-quiet frame at = by (lengthAt frame at) _ (λ length next. by (rcompAt frame (next .at)) _ (λ rcomp last. tt))
+  where
+    by : (x : CheckedField) (f : ℕ → Cursor → Steps BlockHead) → ((v : ℕ) (c : Cursor) → Quiet (f v c)) → Quiet (afterChecked refuses x f)
+    by (Value v c) f h = h v c
+    by (Refused n) f h = tt
 
 -- ---- the clips
 
@@ -46,4 +93,4 @@ module _ (x : AlignedRead) (answer spec : EditsChecked) (class : ℕ) (s : Block
   unedited n e h k = rw (← e, h) k
 
 -- each of them, for `search`
-pub ruleset blockSteps = (field-accepted, field-rejected, clipped, unclipped, edited, unedited)
+pub ruleset blockSteps = (field-accepted, field-rejected, moved-accepted, moved-rejected, clipped, unclipped, edited, unedited)

@@ -1,8 +1,8 @@
 -- An aligned block (document 01, Lines: blocks): its fields left to right, each refused when it is complete.
 --
 -- field, in order                                      read by                               refused by (2 wherever the frame ends within it)
--- read length u16                                      alignedAt, Checked.lengthAt           8
--- rcomp                                                fromRcomp, Checked.rcompAt            11
+-- read length u16                                      Head.headAt, Checked.lengthAt         8
+-- rcomp                                                Head.fromRcomp, Checked.rcompAt       11
 -- I, HM: left soft, left hard, right soft, right hard  fromClips, Clips.clipsAt              9, once all four are read
 -- I, HM: soft-clipped bases, left then right           fromSoft, Symbols.symbolRun           10
 -- all but P: edit count u16                            fromEdits, Checked.countAt            11
@@ -23,11 +23,12 @@ use Rattle.ecigar.specs.Check.{checkOf, editsNumber}
 use Rattle.ecigar.specs.Ecigar.{clipsLength}
 use Rattle.ecigar.specs.declared.check.EditsChecked.the-variants as edits
 use Rattle.ecigar.specs.declared.check.EditsChecked.{EditsChecked}
-use Rattle.block.specs.Checked.{lengthAt, rcompAt, countAt, afterChecked}
+use Rattle.block.specs.Checked.{countAt, afterChecked}
 use Rattle.block.specs.Clips.{clipsAt, clippedNumber}
 use Rattle.block.specs.Symbols.{symbolRun}
 use Rattle.block.specs.declared.clips.Clipped.{Clipped}
 use Rattle.block.specs.declared.clips.Clipped.the-variants as clips
+use Rattle.block.specs.declared.head.BlockHead.{BlockHead}
 use Rattle.block.specs.declared.aligned.AlignedRead.{AlignedRead}
 use Rattle.block.specs.declared.aligned.AlignedRead.the-variants.{Whole, Refused}
 
@@ -76,12 +77,6 @@ fromClips class alphabet frame length rcomp at =
     cond (ltb class classI) (fromEdits class alphabet frame length rcomp noClips at at)
     (afterClips class alphabet frame length rcomp (clipsAt frame length at))
 
--- rcomp
-unfoldable pub fromRcomp : (class alphabet : ℕ) (frame : List ℕ) (length at : ℕ) → AlignedRead
-fromRcomp class alphabet frame length at =
-    afterChecked Refused (rcompAt frame at) (λ rcomp next. fromClips class alphabet frame length rcomp (next .at))
-
--- read length, rcomp, then by the class
-unfoldable pub alignedAt : (class alphabet : ℕ) (frame : List ℕ) (at : ℕ) → AlignedRead
-alignedAt class alphabet frame at =
-    afterChecked Refused (lengthAt frame at) (λ length next. fromRcomp class alphabet frame length (next .at))
+-- behind its head, by the class
+unfoldable pub alignedAt : (class alphabet : ℕ) (frame : List ℕ) → BlockHead → AlignedRead
+alignedAt class alphabet frame head = fromClips class alphabet frame (head .length) (head .rcomp) (head .next .at)

@@ -1,10 +1,9 @@
-// An aligned block: length, rcomp, clips, soft-clipped bases, edits. Its place in the unit and the reference under it are looked at in segment.
+// An aligned block behind its head: clips, soft-clipped bases, edits. Its place in the unit and the reference under it are looked at in segment.
 use crate::checked::CheckedField;
 use crate::checked::read_count;
-use crate::checked::read_length;
-use crate::checked::read_rcomp;
 use crate::clips::Clipped;
 use crate::clips::read_clips;
+use crate::head::BlockHead;
 use crate::symbols::read_symbols;
 use edits::Block;
 use edits::Clips;
@@ -12,7 +11,7 @@ use edits::run_of;
 use frame::field::Cursor;
 use unit::Unit;
 ghost use mathlib.Core.Path.{_≡_};
-ghost use Rattle.block.specs.Aligned.{alignedAt, fromRcomp, fromClips, fromSoft, fromEdits, editsTallied};
+ghost use Rattle.block.specs.Aligned.{alignedAt, fromClips, fromSoft, fromEdits, editsTallied};
 
 // A segment that its block gives, the reference positions that it takes, the length of its E-CIGAR, and the place behind the block.
 pub struct AlignedBlock {
@@ -27,23 +26,12 @@ pub enum AlignedRead {
     Refused(u32),
 }
 
-// The fields of an aligned block, left to right.
-pub fn read_block(frame: &[u8], class: u32, alphabet: u32, c: Cursor) -> AlignedRead
-    ensures { λ r. ⌜ r ≡ alignedAt class alphabet (now (frame .entry)) (c .at) ⌝ }
+// The fields of an aligned block behind its head.
+pub fn read_block(frame: &[u8], class: u32, alphabet: u32, head: BlockHead) -> AlignedRead
+    ensures { λ r. ⌜ r ≡ alignedAt class alphabet (now (frame .entry)) head ⌝ }
 {
-    match read_length(frame, c) {
-        CheckedField::Refused(n) => AlignedRead::Refused(n),
-        CheckedField::Value(length, next) => from_rcomp(frame, class, alphabet, length, next),
-    }
-}
-
-fn from_rcomp(frame: &[u8], class: u32, alphabet: u32, length: u32, c: Cursor) -> AlignedRead
-    ensures { λ r. ⌜ r ≡ fromRcomp class alphabet (now (frame .entry)) length (c .at) ⌝ }
-{
-    match read_rcomp(frame, c) {
-        CheckedField::Refused(n) => AlignedRead::Refused(n),
-        CheckedField::Value(rcomp, next) => from_clips(frame, class, alphabet, length, rcomp, next),
-    }
+    let next = head.next;
+    from_clips(frame, class, alphabet, head.length, head.rcomp, next)
 }
 
 // Only classes I and HM have clips.

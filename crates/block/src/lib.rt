@@ -2,5 +2,6 @@
 pub mod aligned;
 pub mod checked;
 pub mod clips;
+pub mod head;
 pub mod symbols;
 pub mod unaligned;

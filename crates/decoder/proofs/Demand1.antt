@@ -9,10 +9,10 @@ use lib.ListN.{length, getD}
 use Rattle.refusal.specs.Numbers.{fine, missing, noRoom}
 use Rattle.frame.proofs.Unique.{once}
 use Rattle.frame.proofs.HexLaws.{by-test}
-use Rattle.unit.specs.State.{subsequences}
-use Rattle.unit.specs.Listed.{mostListed}
+use Rattle.unit.specs.Pairs.{subsequences}
+use Rattle.state.specs.Listed.{mostListed}
 use Rattle.unit.specs.declared.Unit.{Unit}
-use Rattle.unit.specs.declared.State.{State}
+use Rattle.state.specs.declared.State.{State}
 use Rattle.front.specs.PairLine.{pairLine, tableAfter}
 use Rattle.front.specs.ReferenceLine.{referenceLine, referenceAfter}
 use Rattle.front.specs.declared.pair_line.PairLine.the-variants as pair

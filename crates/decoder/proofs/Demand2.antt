@@ -4,24 +4,27 @@ use Prim.Native.Nat.{ℕ, suc, _+_, _<_, _≤_, _^_}
 use mathlib.Core.Path.{_≡_, refl, _∙_, ap}
 use mathlib.Core.List.{List, []}
 use lib.ListN.{length, getD, take}
+use Rattle.limits.specs.Limits.{recordFields}
 use Rattle.frame.specs.Hex.{unhex}
 use Rattle.unit.specs.Unit.{mostReference}
-use Rattle.unit.specs.State.{subsequences, freshState}
-use Rattle.unit.specs.Listed.{mostListed, accepted}
+use Rattle.unit.specs.Pairs.{subsequences}
+use Rattle.state.specs.State.{freshState, after}
+use Rattle.state.specs.Listed.{mostListed, accepted}
 use Rattle.unit.specs.declared.Unit.{Unit}
-use Rattle.unit.specs.declared.State.{State}
+use Rattle.state.specs.declared.State.{State}
 use Rattle.pairing.specs.Table60.{mateSeqId, mappingPos}
 use Rattle.bases.proofs.ReadLaws.{getD-letters}
 use Rattle.block.specs.declared.unaligned.UnalignedBlock.{UnalignedBlock}
 use Rattle.segment.specs.Segment.{segmentBytes, alignedBytes, unalignedBytes}
 use Rattle.segment.specs.declared.Placed.{Placed}
 use Rattle.segment.proofs.StandardLaws.{SegmentAccepted, listed-is-table92, listed-operations, listed-counts, listed-reads, listed-end, listed-length, listed-from, listed-place, listed-lent, listed-missing, listed-edit, listed-left, listed-right, listed-letter}
-use Rattle.plan.specs.Plan.{planOf}
+use Rattle.taking.proofs.Reading.{decode-reads}
+use Rattle.plan.specs.Plan.{recordSteps, planOf}
 use Rattle.plan.specs.Said.{AlignedIn}
 use Rattle.plan.specs.declared.read.Plan.{Plan}
 use Rattle.plan.specs.declared.read.Planned.the-variants.{Whole}
 use Rattle.plan.proofs.PlanLaws.{first-is-aligned, first-is-plain, second-is-aligned, second-is-plain, second-is-absent}
-use Rattle.record.specs.Record.{stepOf, after}
+use Rattle.record.specs.Record.{stepOf}
 use Rattle.record.proofs.RecordLaws.{step-taken, said-listed, said-first, said-second, said-aligned}
 use Rattle.listing.specs.Lines.{linesOf, joined}
 use Rattle.listing.specs.Files.{good}
@@ -83,14 +86,15 @@ accepted-is-the-standards u reference symbols counts state line frame next call 
       said = said;
       listed = said-listed u reference symbols counts state line frame next call p said;
       linked = t .taken .linked;
-      moved = t .next-is ∙ ap (after state) (t .taken .moved-is);
-      first-aligned = first-is-aligned u reference (unhex line) 5 p blocks;
+      takes = t .taken .takes;
+      moved = t .next-is ∙ ap (after state) (decode-reads symbols counts (recordSteps u reference (unhex line)) state (t .plan) (t .moved) (t .taken .steps));
+      first-aligned = first-is-aligned u reference (unhex line) symbols counts recordFields _ p _ blocks;
       first-position = λ q e. said-first u reference symbols counts state line frame next call p said q e .1;
-      second-aligned = second-is-aligned u reference (unhex line) 5 p blocks;
+      second-aligned = second-is-aligned u reference (unhex line) symbols counts recordFields _ p _ blocks;
       second-position = λ q e. said-second u reference symbols counts state line frame next call p said q e .1;
-      first-unaligned = first-is-plain u reference (unhex line) 5 p blocks;
-      second-unaligned = second-is-plain u reference (unhex line) 5 p blocks;
-      alone = second-is-absent u reference (unhex line) 5 p blocks;
+      first-unaligned = first-is-plain u reference (unhex line) symbols counts recordFields _ p _ blocks;
+      second-unaligned = second-is-plain u reference (unhex line) symbols counts recordFields _ p _ blocks;
+      alone = second-is-absent u reference (unhex line) symbols counts recordFields _ p _ blocks;
       aligned = λ q i. read-is-the-standards u reference (unhex line) q (said-aligned u reference symbols counts state line frame next call p said q i);
       unaligned = unaligned-is-the-standards u reference (unhex line);
     }

@@ -10,10 +10,10 @@ use Rattle.refusal.specs.Numbers.{missing, otherFirst, otherLast}
 use Rattle.frame.specs.Hex.{unhex}
 use Rattle.frame.specs.Field.{bigAt}
 use Rattle.unit.specs.Kinds.{kindRefused, kindDone}
-use Rattle.unit.specs.Listed.{mostListed, numberPlace}
+use Rattle.state.specs.Listed.{mostListed, numberPlace, stateAt}
 use Rattle.listing.specs.Lines.{linesOf, joined}
 use Rattle.listing.specs.Listing.{line05}
-use Rattle.listing.specs.Resuming.{bytes05, bytes06, stateAt, nothing, edges, edgesFrom, countOf, countsOf, place, ContinuableLine, ClosingLine, Continues, placeBy, add, refuse, skip, onSkip, edgesIn, printed, noRecord, torn}
+use Rattle.listing.specs.Resuming.{bytes05, bytes06, nothing, edges, edgesFrom, countOf, countsOf, place, ContinuableLine, ClosingLine, Continues, placeBy, add, refuse, skip, onSkip, edgesIn, printed, noRecord, torn}
 use Rattle.listing.proofs.ResumeLaws.{resume-whole}
 use Rattle.listing.proofs.PlaceLaws.{afresh-whole, behind-none, first-refused, last-refused, refused-only, closed-05, closed-06, believed, run-out, place-near}
 use Rattle.kept.specs.Keep.{mostBytes, fresh, keepAll, edgesAt, Known}

@@ -5,9 +5,9 @@ use mathlib.Core.Path.{_≡_, ap}
 use mathlib.Core.List.{List, []}
 use lib.ListN.{length, getD, drop}
 use Rattle.refusal.specs.Numbers.{Refusal}
-use Rattle.unit.specs.Listed.{refused, accepted}
+use Rattle.state.specs.Listed.{refused, accepted}
 use Rattle.unit.specs.declared.Unit.{Unit}
-use Rattle.unit.specs.declared.State.{State}
+use Rattle.state.specs.declared.State.{State}
 use Rattle.record.specs.Record.{stepOf, recordOf, recorded, refusedCall, output}
 use Rattle.record.proofs.RefusalLaws.{record-refusal}
 use Rattle.listing.specs.Lines.{joined, kept, linesWithin}

@@ -9,11 +9,11 @@ use mathlib.Core.List.{List, [], _∷_}
 use lib.ListN.{length, getD, drop, length-drop}
 use lib.Seq.{ext-getD}
 use Rattle.refusal.specs.Numbers.{missing}
-use Rattle.unit.specs.State.{subsequences, freshState}
-use Rattle.listing.specs.Lines.{sameList}
+use Rattle.unit.specs.Pairs.{subsequences}
+use Rattle.state.specs.State.{freshState, allTaken}
 use Rattle.listing.specs.Listing.{line05, line06, lastLine, firstOf, restOf}
 use Rattle.listing.specs.Resuming.{lastFrom}
-use Rattle.listing.proofs.LinesLaws.{same-not}
+use Rattle.frame.proofs.SameLaws.{same-not}
 use Rattle.listing.proofs.EndLaws.{LastBy, by-call, by-end, by-rest, records-ended}
 use Rattle.decoder.specs.Decoder.{Opened, setupIn, firstListed, restListed}
 use Rattle.decoder.specs.Symbols.{symbolsTaken}
@@ -26,9 +26,9 @@ module _ {refFile unitFile : List ℕ} (o : Opened refFile unitFile) where
   -- every symbol is taken where the indexes are the counts
   all-at-count : (k : ℕ) → ((s : ℕ) → s < subsequences → symbolsTaken o s k ≡ getD (o .rows) s []) → reached o k .index ≡ setupIn o .counts
   all-at-count k h =
-      let eight = reached-behind o k .indexes in
-      ext-getD 0 (reached o k .index) (setupIn o .counts) (eight ∙ sym (length-counts (o .rows) ∙ o .row-lists))
-      (λ s l. let known : s < subsequences = rw (← eight) l in
+      let all-rows = reached-behind o k .indexes in
+      ext-getD 0 (reached o k .index) (setupIn o .counts) (all-rows ∙ sym (length-counts (o .rows) ∙ o .row-lists))
+      (λ s l. let known : s < subsequences = rw (← all-rows) l in
       index-taken o s known k ∙ ap length (h s known) ∙ sym (count-at (o .rows) s))
 
   -- behind every record: a line that is left over, or a symbol, or 06
@@ -39,9 +39,9 @@ module _ {refFile unitFile : List ℕ} (o : Opened refFile unitFile) where
   rest-ending (l ∷ ls) e long is =
       stopped (o .unit .records) missing long refl
       (lineLeft refl (omega (arith, length-drop (o .unit .records) (o .lines), ap length e)))
-  rest-ending [] e long is = by (sameList (reached o (o .unit .records) .index) (setupIn o .counts)) refl is
+  rest-ending [] e long is = by (allTaken (reached o (o .unit .records)) (setupIn o .counts)) refl is
     where
-      by : (t : Bool) → sameList (reached o (o .unit .records) .index) (setupIn o .counts) ≡ t
+      by : (t : Bool) → allTaken (reached o (o .unit .records)) (setupIn o .counts) ≡ t
           → lastFrom (firstListed refFile unitFile) (restListed refFile unitFile) ≡ cond t (line06 (o .unit .records)) (line05 (o .unit .records) missing)
           → Ending o (cond t (line06 (o .unit .records)) (line05 (o .unit .records) missing))
       by true t q = done refl (opened-done o (o .unit .records) (rw (opened-front o) at q))

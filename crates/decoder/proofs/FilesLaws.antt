@@ -1,6 +1,6 @@
 -- The laws of the two files' readers: what they refuse has a number of the table but 17, and what they accept is as a listing needs it.
 -- Assumes nothing.
-use Prim.Native.Nat.{ℕ, _+_, _≤_}
+use Prim.Native.Nat.{ℕ, _≤_}
 use native.Mathlib.Omega.{arith}
 use mathlib.Core.Path.{_≡_, refl, sym, ap}
 use mathlib.Core.List.{List, [], _∷_, _++_}
@@ -10,7 +10,7 @@ use Rattle.frame.specs.Hex.{unhex}
 use Rattle.frame.specs.Field.{bigAt}
 use Rattle.frame.proofs.HexLaws.{bytes-unhex}
 use Rattle.unit.specs.Unit.{mostRecords, mostReference}
-use Rattle.unit.specs.State.{mostSymbols, tableLength}
+use Rattle.unit.specs.Pairs.{mostSymbols, tableLength}
 use Rattle.front.specs.UnitLine.{unitLine}
 use Rattle.front.specs.PairLine.{pairLine, pairHead, symbolList}
 use Rattle.front.specs.ReferenceLine.{basesOf, referenceLine}

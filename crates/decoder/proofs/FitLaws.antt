@@ -10,7 +10,7 @@ use borrow.Author.Tests.{ltb-true, ltb-false}
 use Rattle.frame.specs.Hex.{unhex}
 use Rattle.frame.specs.Steps.{storedAt}
 use Rattle.frame.proofs.HexLaws.{by-test}
-use Rattle.unit.specs.State.{subsequences, symbolPlace, tableLength}
+use Rattle.unit.specs.Pairs.{subsequences, symbolPlace, tableLength}
 use Rattle.unit.proofs.ValidLaws.{UnitValid, valid-is}
 use Rattle.front.specs.PairLine.{pairHead, symbolList}
 use Rattle.front.proofs.PairLaws.{length-symbols, symbol-fits}

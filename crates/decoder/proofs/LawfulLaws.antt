@@ -6,10 +6,10 @@ use mathlib.Core.Path.{_≡_, refl, ap, _∙_}
 use mathlib.Core.List.{List}
 use lib.ListN.{length, getD}
 use Rattle.unit.specs.Unit.{mostRecords}
-use Rattle.unit.specs.State.{subsequences, mostSymbols}
-use Rattle.unit.specs.Listed.{accepted}
+use Rattle.unit.specs.Pairs.{subsequences, mostSymbols}
+use Rattle.state.specs.Listed.{accepted}
 use Rattle.unit.specs.declared.Unit.{Unit}
-use Rattle.unit.specs.declared.State.{State}
+use Rattle.state.specs.declared.State.{State}
 use Rattle.record.specs.Record.{stepOf}
 use Rattle.record.proofs.RecordLaws.{step-refusal, step-accepted}
 use Rattle.listing.specs.Record.{Accepted, FirstLine, Lawful}
@@ -20,11 +20,12 @@ use Rattle.decoder.specs.Files.{readReference, readUnit, readPair, count
 use Rattle.decoder.specs.Decoder.{setupOf, setupBy, frontOf}
 use Rattle.decoder.proofs.FilesLaws.{unit-refused, pair-refused, reference-refused, unit-first, unit-records, pair-row}
 use Rattle.decoder.proofs.TableLaws.{Few, length-counts, count-at}
+use Rattle.state.specs.State.{Shaped}
 
 -- ---- a setup
 
 module _ (u : Unit) (reference symbols counts first : List ℕ) (lines : List (List ℕ)) where
-  step-lawful : (state : State) (line frame : List ℕ) (next : State) → length (state .index) ≡ subsequences → stepOf u reference symbols counts state line ≡ accepted frame next
+  step-lawful : (state : State) (line frame : List ℕ) (next : State) → Shaped state → stepOf u reference symbols counts state line ≡ accepted frame next
       → Accepted (setupOf u reference symbols counts first lines) state line frame next
   step-lawful state line frame next i e =
       let a = step-accepted u reference symbols counts state line frame next e i in
@@ -44,11 +45,11 @@ module _ (u : Unit) (reference symbols counts first : List ℕ) (lines : List (L
 
   pub setup-lawful : FirstLine first → u .records ≤ mostRecords → length counts ≡ subsequences → ((i : ℕ) → getD counts i 0 ≤ mostSymbols)
       → Lawful (setupOf u reference symbols counts first lines)
-  setup-lawful unit few eight fit =
+  setup-lawful unit few all-rows fit =
       record {
         unit = unit;
         count-fits = few;
-        counts-all = eight;
+        counts-all = all-rows;
         counts-fit = fit;
         refusal = λ state line n i e. step-refusal u reference symbols counts state _ n e;
         acceptance = step-lawful;

@@ -15,14 +15,15 @@ use Rattle.frame.specs.Field.{bigAt}
 use Rattle.frame.specs.Line.{lineEnd}
 use Rattle.frame.proofs.HexLaws.{by-test}
 use Rattle.frame.proofs.LineLaws.{frame-is-line}
-use Rattle.unit.specs.State.{subsequences, freshState}
-use Rattle.unit.specs.Listed.{mostListed, numberPlace}
+use Rattle.unit.specs.Pairs.{subsequences}
+use Rattle.state.specs.State.{freshState}
+use Rattle.state.specs.Listed.{mostListed, numberPlace, stateAt}
 use Rattle.unit.specs.declared.Unit.{Unit}
-use Rattle.unit.specs.declared.State.{State}
+use Rattle.state.specs.declared.State.{State}
 use Rattle.listing.specs.Lines.{pushByte, linesOf, joined, ends, WholeLine, end, more}
 use Rattle.listing.specs.Files.{good, wrong, pairs}
 use Rattle.listing.specs.Listing.{Front, line05, lastLine, firstOf, restOf, listed, listing, Each, none, one, ListingLine}
-use Rattle.listing.specs.Resuming.{stateAt, edges, ContinuableLine, add, skip}
+use Rattle.listing.specs.Resuming.{edges, ContinuableLine, add, skip}
 use Rattle.listing.specs.Turn.{Turn, go, stop, onTurn, turn, runBy, run}
 use Rattle.listing.proofs.TurnLaws.{run-listing}
 use Rattle.listing.proofs.PlaceLaws.{goes-on}

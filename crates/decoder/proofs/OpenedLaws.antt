@@ -8,7 +8,7 @@ use lib.Dec.{ltb}
 use lib.ListN.{length, getD, List·getD-eq-default}
 use borrow.Author.Tests.{ltb-true, ltb-false}
 use Rattle.frame.proofs.HexLaws.{by-test}
-use Rattle.unit.specs.State.{subsequences}
+use Rattle.unit.specs.Pairs.{subsequences}
 use Rattle.unit.specs.declared.Unit.{Unit}
 use Rattle.listing.specs.Lines.{linesOf}
 use Rattle.listing.specs.Record.{Setup}

@@ -2,97 +2,52 @@
 -- Assumes nothing.
 use Prim.Native.Nat.{ℕ, zero, suc, _+_, _<_, _≤_}
 use native.Mathlib.Nat.{zero-add, add-zero}
-use native.Mathlib.Numerals.{add-one}
 use native.Mathlib.Omega.{arith}
 use mathlib.Core.Path.{_≡_, refl, sym, ap, _∙_}
-use mathlib.Core.Logic.{_⊎_, inl, inr, ⊎-elim}
 use mathlib.Core.List.{List, [], _∷_, _++_, append-assoc, append-nil}
-use lib.Dec.{eqb, ltb}
+use lib.Dec.{ltb}
 use lib.ListN.{length, getD, take, replicate, getD-replicate, List·getD-eq-default}
-use lib.Seq.{take-suc, take-length, length-take-le}
-use borrow.Author.Tests.{eqb-true, eqb-false, ltb-true, ltb-false}
+use lib.Seq.{take-length, length-take-le}
+use borrow.Author.Tests.{ltb-true, ltb-false}
 use Rattle.refusal.specs.Numbers.{missing}
 use Rattle.frame.proofs.HexLaws.{by-test}
+use Rattle.frame.specs.Hex.{unhex}
 use Rattle.frame.proofs.LineLaws.{lineOfBytes}
-use Rattle.unit.specs.State.{subsequences, freshState}
-use Rattle.unit.specs.Listed.{listedHead, Step, refused, accepted}
+use Rattle.unit.specs.Pairs.{subsequences}
+use Rattle.state.specs.State.{freshState, Shaped, taken, allTaken}
+use Rattle.state.specs.Listed.{listedHead, Step, refused, accepted}
 use Rattle.unit.specs.declared.Unit.{Unit}
-use Rattle.unit.specs.declared.State.{State}
-use Rattle.pairing.specs.Take.{taken, raised, symbolOf}
-use Rattle.pairing.specs.Pairing.{pairOf}
-use Rattle.pairing.specs.Reading.{raisedBy, recordTakes}
-use Rattle.pairing.proofs.Taking.{raised-same, raised-other, raised-long}
-use Rattle.pairing.proofs.Laws.{pair-follows, pair-reads}
+use Rattle.state.specs.declared.State.{State}
+use Rattle.taking.specs.Reading.{symbolsOf}
+use Rattle.taking.proofs.Reading.{takes-row}
+use Rattle.plan.specs.Plan.{recordSteps, recordTakes}
 use Rattle.record.specs.Record.{stepOf}
 use Rattle.record.proofs.RecordLaws.{step-taken, step-accepted}
-use Rattle.listing.specs.Lines.{sameList}
 use Rattle.listing.specs.Record.{Setup, Accepted, Lawful}
 use Rattle.listing.specs.Listing.{Front, alone, unpaired, ready, line06, onStep, records, onAccepted, stateBehind, firstOf, restOf, LawfulFront, Finished, lastLine}
 use Rattle.listing.specs.Resuming.{lastFrom}
 use Rattle.listing.proofs.ListingLaws.{not-06, listing-finished}
 use Rattle.decoder.specs.Files.{countsIn, tableOf}
 use Rattle.decoder.specs.Decoder.{setupBy, frontOf, Opened, setupIn}
-use Rattle.decoder.specs.Symbols.{symbolsOf, onTaken, symbolsTakenFrom, symbolsTaken, RecordLine, AllTaken}
-use Rattle.decoder.proofs.TableLaws.{Few, count-at, symbol-in-row}
+use Rattle.decoder.specs.Symbols.{onTaken, symbolsTakenFrom, symbolsTaken, RecordLine, AllTaken}
+use Rattle.decoder.proofs.TableLaws.{Few, count-at, symbol-stands}
 use Rattle.decoder.proofs.LawfulLaws.{front-is-lawful}
 use Rattle.decoder.proofs.OpenedLaws.{opened-front, front-opened, opened-few}
 
 -- ---- the symbols of one record
 
--- its index is raised by as many as there are of its symbols
-raised-by : (next : ℕ → ℕ) (xs : List ℕ) (b : State) (s : ℕ) → s < length (b .index) → taken (raisedBy b xs) s ≡ taken b s + length (symbolsOf s next xs)
-unfolding raisedBy symbolsOf
-raised-by next [] b s h = omega arith
-raised-by next (x ∷ xs) b s h =
-    by-test (eqb x s)
-    (λ t.
-    let e : x ≡ s = eqb-true x s t in
-    let r : taken (raised b x) s ≡ taken b s + 1 = rw e (raised-same b s h) in
-    rw t (omega (arith, r, raised-by next xs (raised b x) s (rw raised-long h))))
-    (λ t.
-    let r : taken (raised b x) s ≡ taken b s = raised-other b x s (λ e. eqb-false x s t (sym e)) in
-    rw t (omega (arith, r, raised-by next xs (raised b x) s (rw raised-long h))))
-
--- each is the next symbol of its subsequence
-all-next : (s : ℕ) (next : ℕ → ℕ) (xs : List ℕ) → symbolsOf s next xs ≡ replicate (length (symbolsOf s next xs)) (next s)
-unfolding symbolsOf
-all-next s next [] = refl
-all-next s next (x ∷ xs) =
-    by-test (eqb x s)
-    (λ t. let e : x ≡ s = eqb-true x s t in rw (t, e) (ap (λ (l : List ℕ). next s ∷ l) (all-next s next xs)))
-    (λ t. rw t (all-next s next xs))
-
--- they are none, or the row's next one
-row-on : (row here : List ℕ) (n m v : ℕ) → here ≡ replicate (length here) v → m ≡ n + length here → (m ≡ n) ⊎ ((m ≡ n + 1) × ((n < length row) × (v ≡ getD row n 0))) → take n row ++ here ≡ take m row
-row-on row here n m v all e (inl q) =
-    let none : here ≡ [] = all ∙ ap (λ (k : ℕ). replicate k v) (let z : length here ≡ 0 = omega arith in z) in
-    rw (none, q) (append-nil (take n row))
-row-on row here n m v all e (inr q) =
-    let one : here ≡ v ∷ [] = all ∙ ap (λ (k : ℕ). replicate k v) (let z : length here ≡ 1 = omega (arith, q .0) in z) in
-    rw (one, q .0, q .1 .1, add-one n) (sym (take-suc row n 0 (q .1 .0)))
-
-module _ (u : Unit) (reference : List ℕ) (rows : List (List ℕ)) (few : Few rows) (eight : length rows ≡ subsequences) where
+module _ (u : Unit) (reference : List ℕ) (rows : List (List ℕ)) (few : Few rows) (all-rows : length rows ≡ subsequences) where
   -- an accepted record goes on in each row where the records before it stopped
-  step-takes : (state : State) (line frame : List ℕ) (next : State) → length (state .index) ≡ subsequences → stepOf u reference (tableOf rows) (countsIn rows) state line ≡ accepted frame next
+  step-takes : (state : State) (line frame : List ℕ) (next : State) → Shaped state → stepOf u reference (tableOf rows) (countsIn rows) state line ≡ accepted frame next
       → (s : ℕ) → s < subsequences
-      → take (taken state s) (getD rows s []) ++ symbolsOf s (symbolOf (tableOf rows) state) (recordTakes u (tableOf rows) state) ≡ take (taken next s) (getD rows s [])
+      → take (taken state s) (getD rows s []) ++ symbolsOf s (recordTakes u reference (tableOf rows) state line) ≡ take (taken next s) (getD rows s [])
   step-takes state line frame next i e s known =
       let w = step-taken u reference (tableOf rows) (countsIn rows) state line frame next e in
-      let moved : taken next s ≡ taken (pairOf u (tableOf rows) (countsIn rows) state .state) s = ap (λ (x : State). taken x s) (w .next-is) ∙ ap (λ (x : State). taken x s) (w .taken .moved-is) in
-      let reads = pair-reads u (tableOf rows) (countsIn rows) state (w .plan .link) (w .taken .linked) in
-      let takes = recordTakes u (tableOf rows) state in
-      row-on (getD rows s []) (symbolsOf s (symbolOf (tableOf rows) state) takes) (taken state s) (taken next s) (symbolOf (tableOf rows) state s)
-      (all-next s (symbolOf (tableOf rows) state) takes)
-      (moved ∙ ap (λ (x : State). taken x s) (reads .state) ∙ raised-by (symbolOf (tableOf rows) state) takes state s (rw i known))
-      (⊎-elim
-      (λ q. inl (moved ∙ q))
-      (λ q.
-      let left : taken state s < length (getD rows s []) = rw (← count-at rows s) (q .1) in
-      inr (moved ∙ q .0, (left, symbol-in-row rows few eight state s left)))
-      (pair-follows u (tableOf rows) (countsIn rows) state .each s))
+      takes-row (tableOf rows) (countsIn rows) (getD rows s []) s (count-at rows s) (symbol-stands rows few all-rows s) (recordSteps u reference (unhex line)) state (w .plan) (w .moved) (rw i known) (w .taken .steps)
+      ∙ ap (λ (x : State). take (taken x s) (getD rows s [])) (sym (w .next-is))
 
   -- so do all that follow it
-  taken-rows : (first : List ℕ) (lines : List (List ℕ)) (s : ℕ) → s < subsequences → (k : ℕ) (state : State) (ls : List (List ℕ)) → length (state .index) ≡ subsequences
+  taken-rows : (first : List ℕ) (lines : List (List ℕ)) (s : ℕ) → s < subsequences → (k : ℕ) (state : State) (ls : List (List ℕ)) → Shaped state
       → take (taken state s) (getD rows s []) ++ symbolsTakenFrom u reference (tableOf rows) (countsIn rows) s k state ls ≡ take (taken (stateBehind (setupBy reference u first rows lines) k state ls) s) (getD rows s [])
   unfolding symbolsTakenFrom stateBehind
   taken-rows first lines s known zero state ls i = append-nil _
@@ -101,20 +56,20 @@ module _ (u : Unit) (reference : List ℕ) (rows : List (List ℕ)) (few : Few r
       by (stepOf u reference (tableOf rows) (countsIn rows) state l) refl (λ next. taken-rows first lines s known k next ls)
     where
       by : (t : Step) → stepOf u reference (tableOf rows) (countsIn rows) state l ≡ t
-          → ((next : State) → length (next .index) ≡ subsequences
+          → ((next : State) → Shaped next
           → take (taken next s) (getD rows s []) ++ symbolsTakenFrom u reference (tableOf rows) (countsIn rows) s k next ls ≡ take (taken (stateBehind (setupBy reference u first rows lines) k next ls) s) (getD rows s []))
-          → take (taken state s) (getD rows s []) ++ onTaken (symbolsOf s (symbolOf (tableOf rows) state) (recordTakes u (tableOf rows) state)) t (λ next. symbolsTakenFrom u reference (tableOf rows) (countsIn rows) s k next ls)
+          → take (taken state s) (getD rows s []) ++ onTaken (symbolsOf s (recordTakes u reference (tableOf rows) state l)) t (λ next. symbolsTakenFrom u reference (tableOf rows) (countsIn rows) s k next ls)
           ≡ take (taken (onAccepted state t (λ next. stateBehind (setupBy reference u first rows lines) k next ls)) s) (getD rows s [])
       by (refused n) e go = append-nil _
       by (accepted frame next) e go =
-          sym (append-assoc (take (taken state s) (getD rows s [])) (symbolsOf s (symbolOf (tableOf rows) state) (recordTakes u (tableOf rows) state)) _)
+          sym (append-assoc (take (taken state s) (getD rows s [])) (symbolsOf s (recordTakes u reference (tableOf rows) state l)) _)
           ∙ rw (step-takes state l frame next i e s known) (go next (step-accepted u reference (tableOf rows) (countsIn rows) state l frame next e i .indexes))
 
 -- ---- the state behind so many records
 
 -- it has an index for each subsequence, none above its count
 pub record Behind (E : Setup) (state : State) : Type 0 where
-  pub indexes : length (state .index) ≡ subsequences
+  pub indexes : Shaped state
   pub within : (s : ℕ) → taken state s ≤ getD (E .counts) s 0
 
 behind : {E : Setup} → Lawful E → (k : ℕ) (state : State) (ls : List (List ℕ)) → Behind E state → Behind E (stateBehind E k state ls)
@@ -150,7 +105,7 @@ record CallAt (E : Setup) (number : ℕ) (before next : State) (line listed : Li
   call : E .step before line ≡ accepted frame next
   number-is : before .number ≡ number
 
-call-at : {E : Setup} → Lawful E → (k : ℕ) (state : State) (ls : List (List ℕ)) → length (state .index) ≡ subsequences → (i : ℕ) → suc i < length (records E k state ls)
+call-at : {E : Setup} → Lawful E → (k : ℕ) (state : State) (ls : List (List ℕ)) → Shaped state → (i : ℕ) → suc i < length (records E k state ls)
     → CallAt E (state .number + i) (stateBehind E i state ls) (stateBehind E (suc i) state ls) (getD ls i []) (getD (records E k state ls) i [])
 unfolding records stateBehind
 call-at w zero state ls x i h = absurd (omega arith)
@@ -164,7 +119,7 @@ call-at {E} w (suc k) state (l ∷ ls) x zero h = by (E .step state l) refl h
 call-at {E} w (suc k) state (l ∷ ls) x (suc i) h = by (E .step state l) refl h (λ next. call-at w k next ls)
   where
     by : (t : Step) → E .step state l ≡ t → suc (suc i) < length (onStep (state .number) t (λ next. records E k next ls))
-        → ((next : State) → length (next .index) ≡ subsequences → (i : ℕ) → suc i < length (records E k next ls)
+        → ((next : State) → Shaped next → (i : ℕ) → suc i < length (records E k next ls)
         → CallAt E (next .number + i) (stateBehind E i next ls) (stateBehind E (suc i) next ls) (getD ls i []) (getD (records E k next ls) i []))
         → CallAt E (state .number + suc i) (onAccepted state t (λ next. stateBehind E i next ls)) (onAccepted state t (λ next. stateBehind E (suc i) next ls)) (getD ls i [])
         (getD (onStep (state .number) t (λ next. records E k next ls)) (suc i) [])
@@ -177,7 +132,7 @@ call-at {E} w (suc k) state (l ∷ ls) x (suc i) h = by (E .step state l) refl h
 -- a closing 06 line carries the record count
 closing-count : (E : Setup) (state : State) (ls : List (List ℕ)) (q : ℕ) → lastLine E state ls ≡ line06 q → lastLine E state ls ≡ line06 (E .count)
 unfolding lastLine
-closing-count E state [] q e = by-test (sameList (state .index) (E .counts)) (λ t. simp t) (λ t. not-06 (E .count) missing q (simp t at e))
+closing-count E state [] q e = by-test (allTaken state (E .counts)) (λ t. simp t) (λ t. not-06 (E .count) missing q (simp t at e))
 closing-count E state (l ∷ ls) q e = not-06 (E .count) missing q e
 
 -- where the last line is 06, each record has its line

@@ -1,4 +1,4 @@
--- The laws of the flat table and the symbol counts: each symbol stands in its row, and eight reads of pair lines make the table.
+-- The laws of the flat table and the symbol counts: each symbol stands in its row, and one read a pair line makes the table.
 -- Assumes nothing.
 use Prim.Native.Nat.{ℕ, zero, suc, _+_, _<_, _≤_}
 use native.Mathlib.Omega.{arith}
@@ -7,7 +7,7 @@ use mathlib.Core.List.{List, [], _∷_, _++_}
 use lib.ListN.{length, getD, take, length-replicate, length-append}
 use Rattle.frame.specs.Hex.{unhex}
 use Rattle.unit.specs.Unit.{mostReference}
-use Rattle.unit.specs.State.{subsequences, mostSymbols, symbolPlace, tableLength}
+use Rattle.unit.specs.Pairs.{subsequences, mostSymbols, symbolPlace, tableLength}
 use Rattle.frame.specs.Steps.{storedAt}
 use Rattle.front.specs.PairLine.{tableBy, tableAfter}
 use Rattle.front.specs.ReferenceLine.{basesOf, referenceLine, referenceAfter}
@@ -16,8 +16,6 @@ use Rattle.front.specs.declared.reference_line.ReferenceLine.the-variants.{Base
 use Rattle.front.proofs.ReferenceLaws.{reference-accepted, reference-joined, length-reference}
 use Rattle.front.proofs.PairLaws.{length-table}
 use Rattle.frame.proofs.StoreLaws.{length-stored, stored-inside, stored-before}
-use Rattle.unit.specs.declared.State.{State}
-use Rattle.pairing.specs.Take.{taken, symbolOf}
 use Rattle.listing.specs.Files.{good}
 use Rattle.decoder.specs.Files.{afterBases, joinedBases, basesInto, readPair, countsIn, rowsInto, emptyTable, tableOf, readsInto}
 use Rattle.decoder.proofs.FilesLaws.{pair-row}
@@ -72,13 +70,13 @@ rows-at (row ∷ rows) t i few room (suc j) k h =
 pub length-empty : length emptyTable ≡ tableLength
 length-empty = length-replicate {A = ℕ} tableLength 0
 
-module _ (rows : List (List ℕ)) (few : Few rows) (eight : length rows ≡ subsequences) where
-  -- the next symbol of a subsequence is that of its row
-  pub symbol-in-row : (state : State) (s : ℕ) → taken state s < length (getD rows s []) → symbolOf (tableOf rows) state s ≡ getD (getD rows s []) (taken state s) 0
+module _ (rows : List (List ℕ)) (few : Few rows) (all-rows : length rows ≡ subsequences) where
+  -- each symbol of a row stands in the row's places
+  pub symbol-stands : (s k : ℕ) → k < length (getD rows s []) → getD (tableOf rows) (symbolPlace s k) 0 ≡ getD (getD rows s []) k 0
   unfolding tableOf
-  symbol-in-row state s h =
+  symbol-stands s k h =
       let start : 0 + s ≡ s = omega arith in
-      rw start at (rows-at rows emptyTable 0 few (omega (arith, length-empty)) s (taken state s) h)
+      rw start at (rows-at rows emptyTable 0 few (omega (arith, length-empty)) s k h)
 
 -- ---- the reads that make it
 

@@ -13,15 +13,13 @@ use Rattle.frame.specs.Hex.{be}
 use Rattle.writing.specs.Whole.{wroteOf, lineInto}
 use Rattle.writing.specs.declared.lay.Wrote.{Wrote}
 use Rattle.frame.proofs.LineLaws.{lineOfBytes, length-line}
-use Rattle.unit.specs.State.{subsequences}
-use Rattle.unit.specs.Listed.{mostListed, Step, refused, accepted}
+use Rattle.state.specs.Listed.{mostListed, Step, refused, accepted}
 use Rattle.unit.specs.declared.Unit.{Unit}
-use Rattle.unit.specs.declared.State.{State}
+use Rattle.state.specs.declared.State.{State}
 use Rattle.record.specs.Record.{stepOf, recordOf, recorded, output}
 use Rattle.record.specs.declared.Answer.the-variants.{Listed, Refused}
 use Rattle.record.specs.declared.Recorded.{Recorded}
 use Rattle.record.proofs.RecordLaws.{record-roomy}
-use Rattle.listing.specs.Lines.{sameList}
 use Rattle.listing.specs.Listing.{frame05, line05, frame06, line06, lastLine}
 use Rattle.listing.specs.Turn.{Turn, stop, stepTurn, recordTurn, lastTurn, turn}
 use Rattle.writing.proofs.WholeLaws.{front-line}
@@ -29,6 +27,7 @@ use Rattle.decoder.specs.Turned.{lentLine, turnOf, turned, printedInto, 
 use Rattle.decoder.specs.Decoder.{setupOf}
 use Rattle.decoder.specs.declared.Turned.{Turned}
 use Rattle.decoder.specs.declared.Added.the-variants.{Go, NoRoom}
+use Rattle.state.specs.State.{Shaped, allTaken}
 
 -- what a caller sees of a turn: the answer r, and e in what was lent
 abbrev pub Seen : State → List ℕ → Turn → Turned → List ℕ → Type 0
@@ -87,19 +86,19 @@ module _ (u : Unit) (reference symbols counts : List ℕ) (state : State) (line 
   unfolding lentLine
   record-missing h s = rw (eq-eqb (length line) 0 h) s
 
-  module _ (some-line : length line ≡ 0 → ⊥) (eight : length (state .index) ≡ subsequences) (room : mostListed < length out)
+  module _ (some-line : length line ≡ 0 → ⊥) (shaped : Shaped state) (room : mostListed < length out)
       {r : Recorded} {e : List ℕ} (was : (r ≡ recorded state called) × (e ≡ output out called)) where
     pub turn-listed : (n : ℕ) → r .answer ≡ Listed n → Seen state out wanted (record { added = Go n; state = r .state }) e
     unfolding lentLine
     turn-listed n a =
-        let w = record-roomy u reference symbols counts state line (length out) eight room in
+        let w = record-roomy u reference symbols counts state line (length out) shaped room in
         rw (ne-eqb (length line) 0 some-line)
         (listed-step state out n (stepOf u reference symbols counts state line) r e (was .0 ∙ ap (recorded state) w) (was .1 ∙ ap (output out) w) a)
 
     pub turn-refused : (k : ℕ) → r .answer ≡ Refused k → {x : Turned} {g : List ℕ} → Seen state e (stop (line05 (state .number) k)) x g → Seen state out wanted x g
     unfolding lentLine
     turn-refused k a s =
-        let w = record-roomy u reference symbols counts state line (length out) eight room in
+        let w = record-roomy u reference symbols counts state line (length out) shaped room in
         rw (ne-eqb (length line) 0 some-line)
         (refused-step state out k (stepOf u reference symbols counts state line) r e (was .0 ∙ ap (recorded state) w) (was .1 ∙ ap (output out) w) a s)
 
@@ -115,7 +114,7 @@ module _ (u : Unit) (counts : List ℕ) (state : State) (line out : List ℕ) wh
   last-behind h s = rw (ne-eqb (length line) 0 h) s
 
   -- the end of the file, by whether every symbol is taken
-  module _ (b : Bool) (is : b ≡ sameList (state .index) counts) (h : length line ≡ 0) {r : Turned} {e : List ℕ} where
+  module _ (b : Bool) (is : b ≡ allTaken state counts) (h : length line ≡ 0) {r : Turned} {e : List ℕ} where
     pub last-done : b ≡ true → Seen state out (stop (line06 (u .records))) r e → Seen state out last r e
     unfolding lentLine lastLine
     last-done t s = rw (eq-eqb (length line) 0 h, ← is, t) s

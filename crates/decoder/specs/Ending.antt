@@ -5,10 +5,10 @@ use mathlib.Core.Path.{_≡_}
 use mathlib.Core.List.{List, []}
 use lib.ListN.{length, getD}
 use Rattle.refusal.specs.Numbers.{missing}
-use Rattle.unit.specs.State.{subsequences}
-use Rattle.unit.specs.Listed.{refused}
-use Rattle.unit.specs.declared.State.{State}
-use Rattle.pairing.specs.Take.{taken}
+use Rattle.unit.specs.Pairs.{subsequences}
+use Rattle.state.specs.Listed.{refused}
+use Rattle.state.specs.declared.State.{State}
+use Rattle.state.specs.State.{indexCount, taken}
 use Rattle.record.specs.Record.{stepOf}
 use Rattle.listing.specs.Listing.{line05, line06}
 use Rattle.decoder.specs.Files.{countsIn, tableOf}
@@ -21,7 +21,7 @@ pub record RefusedAt {refFile unitFile : List ℕ} (o : Opened refFile unitFile)
   pub wanted : i < o .unit .records
   pub there : i < length (o .lines)
   pub number : before .number ≡ i
-  pub index-before : (s : ℕ) → s < subsequences → taken before s ≡ length (symbolsTaken o s i)
+  pub index-before : (s : ℕ) → s < indexCount → taken before s ≡ length (symbolsTaken o s i)
   pub call : stepOf (o .unit) (o .reference) (tableOf (o .rows)) (countsIn (o .rows)) before (getD (o .lines) i []) ≡ refused n
 
 -- why a listing is refused behind i records, and by which number

@@ -5,7 +5,7 @@ use mathlib.Core.List.{List, [], _∷_, _++_}
 use lib.ListN.{length, replicate}
 use Rattle.frame.specs.Hex.{unhex}
 use Rattle.unit.specs.Unit.{mostReference}
-use Rattle.unit.specs.State.{symbolPlace, tableLength}
+use Rattle.unit.specs.Pairs.{symbolPlace, tableLength}
 use Rattle.frame.specs.Steps.{storedAt}
 use Rattle.front.specs.UnitLine.{unitLine}
 use Rattle.front.specs.PairLine.{pairHead, pairLine, symbolList, tableAfter}

@@ -10,9 +10,9 @@ use Rattle.frame.specs.Field.{bigAt}
 use Rattle.alphabet.specs.Table35.{letterN, letterOf}
 use Rattle.unit.specs.Unit.{classHM, classU, mostSegments}
 use Rattle.unit.specs.declared.Unit.{Unit}
-use Rattle.unit.specs.declared.State.{State}
+use Rattle.state.specs.declared.State.{State}
 use Rattle.pairing.specs.Table60.{mappingPos}
-use Rattle.pairing.specs.Pairing.{pairOf}
+use Rattle.pairing.specs.Pairing.{pairOf, pairTakes}
 use Rattle.pairing.specs.declared.LinkRead.the-variants.{Linked}
 use Rattle.edits.specs.declared.edit.Edit.{Edit}
 use Rattle.ecigar.specs.Table90.{printAll, movesRead, movesReference, total, AllPositive}
@@ -22,11 +22,13 @@ use Rattle.segment.specs.Segment.{segmentBytes}
 use Rattle.segment.specs.Listed.{listedBases, listedEcigar, listedOperations, mappedIn, table92, Matches, Brought, Letter}
 use Rattle.segment.specs.declared.Placed.{Placed}
 use Rattle.segment.specs.declared.Segment.the-variants.{Aligned, Unaligned, Absent}
-use Rattle.plan.specs.Plan.{planOf}
+use Rattle.taking.specs.Reading.{raisedBy}
+use Rattle.plan.specs.Plan.{planOf, recordTakes}
 use Rattle.plan.specs.Said.{AlignedIn}
 use Rattle.plan.specs.declared.read.Plan.{Plan}
 use Rattle.plan.specs.declared.read.Planned.the-variants.{Whole}
-use Rattle.record.specs.Record.{listedBytes, after}
+use Rattle.record.specs.Record.{listedBytes}
+use Rattle.state.specs.State.{after}
 
 -- ---- an aligned read
 
@@ -87,8 +89,10 @@ pub record StandardRecord (u : Unit) (reference symbols counts : List ℕ) (stat
   pub listed : frame ≡ listedBytes u reference (unhex line) (state .number) next plan
   -- the link is Table 60's, of the pair symbols that stand next at the indexes given
   pub linked : pairOf u symbols counts state .answer ≡ Linked (plan .link)
-  -- and the state behind it has the next number and the indexes behind those symbols
-  pub moved : next ≡ after state (pairOf u symbols counts state .state)
+  -- the record takes these symbols and no others
+  pub takes : recordTakes u reference symbols state line ≡ pairTakes u symbols state
+  -- and the state behind it has the next number, and each index is raised by the symbols that the record takes of its subsequence
+  pub moved : next ≡ after state (raisedBy state (recordTakes u reference symbols state line))
   -- in every class but U the first read is aligned, and maps to the position that the line gives
   pub first-aligned : (u .class ≡ classU → ⊥) → (q : Placed) × (plan .first ≡ Aligned q)
   pub first-position : (q : Placed) → plan .first ≡ Aligned q → q .position ≡ bigAt 4 (unhex line) 1

@@ -1,28 +1,22 @@
--- The pair symbols that a listing's records take (document 01, Pairing), one record after the other.
+-- The symbols that a listing's records take (document 01, Pairing), one record after the other.
 -- Assumes nothing.
 use Prim.Native.Nat.{ℕ, zero, suc, _<_}
 use mathlib.Core.Path.{_≡_}
-use mathlib.Core.Bool.{cond}
 use mathlib.Core.List.{List, [], _∷_, _++_}
-use lib.Dec.{eqb}
 use lib.ListN.{length, getD}
 use Rattle.frame.specs.Line.{lineOfBytes}
-use Rattle.unit.specs.State.{subsequences, freshState}
-use Rattle.unit.specs.Listed.{Step, refused, accepted, listedHead}
+use Rattle.unit.specs.Pairs.{subsequences}
+use Rattle.state.specs.State.{indexCount, freshState, taken}
+use Rattle.state.specs.Listed.{Step, refused, accepted, listedHead}
 use Rattle.unit.specs.declared.Unit.{Unit}
-use Rattle.unit.specs.declared.State.{State}
-use Rattle.pairing.specs.Take.{taken, symbolOf}
-use Rattle.pairing.specs.Reading.{recordTakes}
+use Rattle.state.specs.declared.State.{State}
+use Rattle.taking.specs.Reading.{symbolsOf}
+use Rattle.plan.specs.Plan.{recordTakes}
 use Rattle.record.specs.Record.{stepOf}
 use Rattle.listing.specs.Listing.{line06}
 use Rattle.listing.specs.Resuming.{lastFrom}
 use Rattle.decoder.specs.Files.{countsIn, tableOf}
 use Rattle.decoder.specs.Decoder.{firstListed, restListed, Opened}
-
--- of the subsequences that a record takes a symbol of, the symbols of subsequence s, where `next N` is the next symbol of subsequence N
-unfoldable pub symbolsOf : ℕ → (ℕ → ℕ) → List ℕ → List ℕ
-symbolsOf s next [] = []
-symbolsOf s next (N ∷ rest) = cond (eqb N s) (next N ∷ symbolsOf s next rest) (symbolsOf s next rest)
 
 -- the symbols of an accepted record, and those of the records behind it
 abbrev pub onTaken : List ℕ → Step → (State → List ℕ) → List ℕ
@@ -35,7 +29,7 @@ module _ (u : Unit) (reference symbols counts : List ℕ) where
   symbolsTakenFrom s zero state ls = []
   symbolsTakenFrom s (suc k) state [] = []
   symbolsTakenFrom s (suc k) state (l ∷ ls) =
-      onTaken (symbolsOf s (symbolOf symbols state) (recordTakes u symbols state)) (stepOf u reference symbols counts state l) (λ next. symbolsTakenFrom s k next ls)
+      onTaken (symbolsOf s (recordTakes u reference symbols state l)) (stepOf u reference symbols counts state l) (λ next. symbolsTakenFrom s k next ls)
 
 -- the symbols of subsequence s that the first k records of two files take
 abbrev pub symbolsTaken : {refFile unitFile : List ℕ} → Opened refFile unitFile → ℕ → ℕ → List ℕ
@@ -50,10 +44,10 @@ pub record RecordLine {refFile unitFile : List ℕ} (o : Opened refFile unitFile
   pub is : line ≡ lineOfBytes frame
   pub call : stepOf (o .unit) (o .reference) (tableOf (o .rows)) (countsIn (o .rows)) before (getD (o .lines) i []) ≡ accepted frame next
   pub number : before .number ≡ i
-  pub index-before : (s : ℕ) → s < subsequences → taken before s ≡ length (symbolsTaken o s i)
+  pub index-before : (s : ℕ) → s < indexCount → taken before s ≡ length (symbolsTaken o s i)
   pub tail : List ℕ
   pub head : frame ≡ listedHead i next ++ tail
-  pub index : (s : ℕ) → s < subsequences → taken next s ≡ length (symbolsTaken o s (suc i))
+  pub index : (s : ℕ) → s < indexCount → taken next s ≡ length (symbolsTaken o s (suc i))
 
 -- every record is listed, the 06 line carries the record count, and every pair symbol is taken, once and in order
 pub record AllTaken {refFile unitFile : List ℕ} (o : Opened refFile unitFile) : Type 0 where

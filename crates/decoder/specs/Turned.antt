@@ -9,9 +9,9 @@ use lib.ListN.{length, drop}
 use Rattle.refusal.specs.Numbers.{fine, noRoom}
 use Rattle.writing.specs.declared.lay.Wrote.{Wrote}
 use Rattle.writing.specs.declared.lay.Wrote.the-variants as wrote
-use Rattle.unit.specs.Listed.{mostListed}
+use Rattle.state.specs.Listed.{mostListed}
 use Rattle.unit.specs.declared.Unit.{Unit}
-use Rattle.unit.specs.declared.State.{State}
+use Rattle.state.specs.declared.State.{State}
 use Rattle.listing.specs.Turn.{Turn, go, stop, turn, runBy}
 use Rattle.decoder.specs.Files.{countsIn, tableOf}
 use Rattle.decoder.specs.Decoder.{setupOf, Opened}

@@ -1,16 +1,15 @@
 // The decoder as a whole: each line that is added to a listing, by one call a line of the unit file.
 use listing::close;
 use record::Answer;
-use unit::State;
+use state::State;
+use state::listed::ListedLine;
 use unit::Unit;
-use unit::listed::ListedLine;
 use writing::lay::Wrote;
 ghost use mathlib.Core.Path.{_≡_};
 ghost use mathlib.Core.List.{[]};
 ghost use Prim.Native.Nat.{_<_};
 ghost use lib.ListN.{length};
-ghost use Rattle.unit.specs.Listed.{mostListed};
-ghost use Rattle.listing.specs.Lines.{sameList};
+ghost use Rattle.state.specs.Listed.{mostListed};
 ghost use Rattle.listing.specs.Listing.{line05, line06};
 ghost use Rattle.listing.specs.Turn.{stop, recordTurn, lastTurn};
 ghost use Rattle.decoder.specs.Decoder.{setupOf};
@@ -65,23 +64,6 @@ fn finish(out: &mut [u8], count: u32, state: State) -> Turned
     stopped(wrote, state)
 }
 
-// Whether every pair symbol is taken.
-fn all_taken(index: [u32; State::SUBSEQUENCES], counts: &[u32]) -> bool
-    ensures { λ r. ⌜ r ≡ sameList index (now (counts .entry)) ⌝ }
-{
-    if counts.len() != State::SUBSEQUENCES {
-        return false;
-    }
-    let mut i: usize = 0;
-    while i < State::SUBSEQUENCES {
-        if index[i] != counts[i] {
-            return false;
-        }
-        i += 1;
-    }
-    true
-}
-
 // No record is wanted: bytes behind the last record line, or pair symbols left over, are refused by 14.
 fn last_turn(unit: Unit, counts: &[u32], state: State, line: &[u8], out: &mut [u8]) -> Turned
     requires { ⌜ mostListed < length (now out) ⌝ }
@@ -91,8 +73,7 @@ fn last_turn(unit: Unit, counts: &[u32], state: State, line: &[u8], out: &mut [u
     if line.len() != 0 {
         return refuse(out, unit.records, refusal::MISSING, state);
     }
-    let index = state.index;
-    if all_taken(index, counts) {
+    if state.all_taken(counts) {
         return finish(out, unit.records, state);
     }
     refuse(out, unit.records, refusal::MISSING, state)

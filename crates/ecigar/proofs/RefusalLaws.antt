@@ -2,9 +2,9 @@
 -- Assumes nothing.
 use mathlib.Core.List.{List}
 use Prim.Native.Nat.{ℕ, zero, suc, _+_}
-use lib.Dec.{ltb, eqb, lit<}
+use lib.Dec.{ltb, eqb}
 use Rattle.refusal.specs.Numbers.{fine, Early, FineOrEarly}
-use Rattle.refusal.proofs.RefusalLaws.{by-number}
+use Rattle.refusal.proofs.RefusalLaws.{by-number, early, fine-or-early}
 use Rattle.frame.proofs.Tests.{one-of}
 use Rattle.alphabet.specs.Table35.{sizeOf}
 use Rattle.edits.specs.Lengths.{mostRead, mostEdits}
@@ -20,16 +20,16 @@ EarlyEdits (Refused n) = Early n
 
 edits-early : (class alphabet : ℕ) (frame : List ℕ) (mapped next k at : ℕ) → FineOrEarly (editsRefusal class alphabet frame mapped next k at)
 unfolding editsRefusal
-edits-early class alphabet frame mapped next zero at = lit< tt
+edits-early class alphabet frame mapped next zero at = fine-or-early tt
 edits-early class alphabet frame mapped next (suc k) at =
     let e = editAt class alphabet frame at in
     let own = edit-early mapped (sizeOf alphabet) next e in
-    one-of FineOrEarly (endsWithin frame at (widthOf class)) _ _ (lit< tt)
+    one-of FineOrEarly (endsWithin frame at (widthOf class)) _ _ (fine-or-early tt)
     (one-of FineOrEarly (eqb (editRefusal mapped (sizeOf alphabet) next e) fine) _ _ (edits-early class alphabet frame mapped (nextOffset e) k (at + widthOf class)) own)
 
 pub check-early : (class alphabet : ℕ) (frame : List ℕ) (at count mapped : ℕ) → EarlyEdits (checkOf class alphabet frame at count mapped)
 unfolding checkOf editsChecked answered
 check-early class alphabet frame at count mapped =
-    one-of EarlyEdits (ltb mostEdits count) _ _ (lit< tt, lit< tt)
-    (one-of EarlyEdits (ltb mostRead mapped) _ _ (lit< tt, lit< tt)
+    one-of EarlyEdits (ltb mostEdits count) _ _ (early tt)
+    (one-of EarlyEdits (ltb mostRead mapped) _ _ (early tt)
     (by-number EarlyEdits (editsRefusal class alphabet frame mapped 0 count at) _ _ (edits-early class alphabet frame mapped 0 count at) tt (λ h. h)))

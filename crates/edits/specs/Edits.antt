@@ -7,6 +7,7 @@ use mathlib.Core.List.{List, [], _∷_}
 use lib.Dec.{ltb, leb, eqb}
 use lib.ListN.{getD}
 use Rattle.refusal.specs.Numbers.{fine, symbolOut, fieldOut, offsetOut}
+use Rattle.limits.specs.Limits.{editBytes}
 use Rattle.frame.specs.Field.{bigAt}
 use Rattle.frame.specs.Steps.{unless}
 use Rattle.unit.specs.Unit.{classN, classM}
@@ -30,7 +31,7 @@ noSymbol = 0
 
 -- an edit's bytes: an offset; in M also a symbol; in I and HM a type and a symbol
 unfoldable pub widthOf : (class : ℕ) → ℕ
-widthOf class = cond (eqb class classN) 2 (cond (eqb class classM) 3 4)
+widthOf class = cond (eqb class classN) 2 (cond (eqb class classM) 3 editBytes)
 
 -- the offset u16 at a place of the frame
 abbrev pub offsetAt : (frame : List ℕ) (at : ℕ) → ℕ

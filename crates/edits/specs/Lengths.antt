@@ -2,18 +2,7 @@
 -- Assumes nothing.
 use Prim.Native.Nat.{ℕ, _+_, _-_}
 use Rattle.edits.specs.declared.Clips.{Clips}
-
--- the longest read
-abbrev pub mostRead : ℕ
-mostRead = 1000
-
--- the most edits of a segment
-abbrev pub mostEdits : ℕ
-mostEdits = 1000
-
--- the longest E-CIGAR
-abbrev pub mostEcigar : ℕ
-mostEcigar = 4014
+pub use Rattle.limits.specs.Limits.{mostRead, mostEdits, mostEcigar}
 
 -- classes P, N and M have no clips
 abbrev pub noClips : Clips

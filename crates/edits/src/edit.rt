@@ -1,4 +1,5 @@
 // The edits of an aligned block: read from the frame in place, and refused one by one.
+use limits::Limit;
 use unit::Unit;
 ghost use mathlib.Core.Path.{_≡_};
 ghost use mathlib.Core.Bool.{true};
@@ -48,7 +49,7 @@ pub fn width(class: u32) -> usize
     if class == Unit::M {
         return 3;
     }
-    4
+    Limit::EDIT
 }
 
 fn wide(b: u8) -> u16

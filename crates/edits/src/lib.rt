@@ -1,9 +1,10 @@
 // What a block of a record holds: a segment's length, clips and edits, and where they stand in the frame.
 pub mod edit;
 
+use limits::Limit;
 ghost use mathlib.Core.Path.{_≡_};
 ghost use mathlib.Core.List.{[], _∷_};
-ghost use Rattle.edits.specs.Lengths.{mostRead, mostEdits, mostEcigar, noClips, softBases, mappedLength};
+ghost use Rattle.edits.specs.Lengths.{mostRead, mostEdits, noClips, softBases, mappedLength};
 ghost use Rattle.edits.specs.code.Runs.{runOf};
 
 // The clipped bases on both sides of a segment.
@@ -54,20 +55,17 @@ pub struct Run {
 
 impl Block {
     // The longest read.
-    pub const READ: u32 = 1_000;
+    pub const READ: u32 = Limit::READ as u32;
 
     // The most edits of a segment.
-    pub const EDITS: u32 = 1_000;
-
-    // The longest E-CIGAR.
-    pub const ECIGAR: u32 = 4_014;
+    pub const EDITS: u32 = Limit::EDITS as u32;
 }
 
 // Each limit is its name in specs/: proved, and called by nothing.
-fn tied() -> [u32; 3]
-    ensures { λ r. ⌜ r ≡ mostRead ∷ mostEdits ∷ mostEcigar ∷ [] ⌝ }
+fn tied() -> [u32; 2]
+    ensures { λ r. ⌜ r ≡ mostRead ∷ mostEdits ∷ [] ⌝ }
 {
-    [Block::READ, Block::EDITS, Block::ECIGAR]
+    [Block::READ, Block::EDITS]
 }
 
 // The run between the clips.

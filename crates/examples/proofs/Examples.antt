@@ -3,7 +3,7 @@
 use mathlib.Core.Path.{refl}
 use Rattle.frame.specs.Line.{lineWithin}
 use Rattle.unit.specs.Unit.{leastSegments, unitRefusal}
-use Rattle.unit.specs.Listed.{words, listedHead}
+use Rattle.state.specs.Listed.{words, listedHead}
 use Rattle.bases.specs.Bases.{pastEdit, editBases, basesFrom, refusalFrom, lettersAt, basesText}
 use Rattle.bases.specs.Reference.{isLent, baseAt, baseRefusal, matchedBases, matchRefusal}
 use Rattle.edits.specs.Edits.{widthOf, editAt, editsAt, nextOffset, deletionRefusal, editRefusal, takenFrom}
@@ -13,13 +13,15 @@ use Rattle.ecigar.specs.Table93.{withMatch, mismatchLoop, insertionLoop, deleti
 use Rattle.writing.specs.Decimal.{decimalF, decimal}
 use Rattle.frame.specs.Field.{bigAt, fieldAt}
 use Rattle.frame.specs.Hex.{isDigit, nib, unhex, allDigits, be}
-use Rattle.pairing.specs.Pairing.{decode, recordSteps, pairOf}
+use Rattle.pairing.specs.Pairing.{pairSteps}
 use Rattle.pairing.specs.Table60.{same-rec, table60}
-use Rattle.pairing.specs.Take.{takeOf}
-use Rattle.unit.specs.State.{within}
+use Rattle.taking.specs.Take.{takeOf}
+use Rattle.taking.specs.Steps.{andThen, decode}
+use Rattle.state.specs.State.{noneAbove}
 use Rattle.plan.specs.Lent.{countsOut, stateRefusal, lentRefusal}
-use Rattle.plan.specs.Plan.{nothingLeftOver as finishedPlan, firstSegment, secondSegment, fromSecond, fromFirst, fromPos, fromKind, planOf}
-use Rattle.block.specs.Aligned.{editsTallied as talliedBlock, fromEdits, fromSoft, fromClips, fromRcomp, alignedAt}
+use Rattle.plan.specs.Plan.{nothingLeftOver as finishedPlan, alignedSteps, firstSegment, secondSegment, fromSecond, fromFirst, fromPos, recordSteps, fromKind, planOf}
+use Rattle.block.specs.Aligned.{editsTallied as talliedBlock, fromEdits, fromSoft, fromClips, alignedAt}
+use Rattle.block.specs.Head.{fromRcomp, headAt}
 use Rattle.block.specs.Checked.{lengthAt, rcompAt, countAt}
 use Rattle.block.specs.Clips.{clipsIn, clipsAt}
 use Rattle.segment.specs.Segment.{placed, placedAt, plainAt, alignedBytes, unalignedBytes, segmentBytes}
@@ -31,5 +33,5 @@ use Rattle.record.specs.Record.{stepOf, linkBytes, listedBytes}
 use Rattle.examples.specs.Examples.{Examples}
 
 pub examples : Examples
-unfolding pastEdit editBases basesFrom refusalFrom lettersAt basesText isLent baseAt baseRefusal matchedBases matchRefusal widthOf editAt editsAt nextOffset deletionRefusal editRefusal takenFrom editsRefusal answered editsChecked checkOf leftClipped rightClipped ecigarString withMatch mismatchLoop insertionLoop deletionLoop indelLoop decodeECigarMismatches decimalF decimal bigAt fieldAt isDigit nib unhex allDigits be lineWithin decode recordSteps pairOf same-rec table60 takeOf countsOut within stateRefusal lentRefusal firstSegment secondSegment fromSecond fromFirst fromPos fromKind planOf linkBytes listedBytes stepOf fromEdits fromSoft fromClips fromRcomp alignedAt lengthAt rcompAt countAt clipsIn clipsAt placed placedAt plainAt alignedBytes unalignedBytes segmentBytes placeRefusal symbolsFrom fromLength unalignedAt words listedHead sizeOf letterOf codeOfN leastSegments unitRefusal finishedPlan talliedBlock
+unfolding pastEdit editBases basesFrom refusalFrom lettersAt basesText isLent baseAt baseRefusal matchedBases matchRefusal widthOf editAt editsAt nextOffset deletionRefusal editRefusal takenFrom editsRefusal answered editsChecked checkOf leftClipped rightClipped ecigarString withMatch mismatchLoop insertionLoop deletionLoop indelLoop decodeECigarMismatches decimalF decimal bigAt fieldAt isDigit nib unhex allDigits be lineWithin andThen decode pairSteps recordSteps same-rec table60 takeOf countsOut noneAbove stateRefusal lentRefusal alignedSteps firstSegment secondSegment fromSecond fromFirst fromPos fromKind planOf linkBytes listedBytes stepOf fromEdits fromSoft fromClips fromRcomp headAt alignedAt lengthAt rcompAt countAt clipsIn clipsAt placed placedAt plainAt alignedBytes unalignedBytes segmentBytes placeRefusal symbolsFrom fromLength unalignedAt words listedHead sizeOf letterOf codeOfN leastSegments unitRefusal finishedPlan talliedBlock
 examples = refl

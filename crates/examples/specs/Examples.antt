@@ -7,10 +7,12 @@ use mathlib.Core.Path.{_≡_}
 use mathlib.Core.List.{List, [], _∷_, _++_, map}
 use lib.ListN.{replicate, take, drop}
 use Rattle.refusal.specs.Numbers.{offsetOut}
+use Rattle.limits.specs.Limits.{segmentFields}
 use Rattle.frame.specs.Line.{lineEnd}
 use Rattle.unit.specs.Unit.{classP, classN, classM, classI, classU}
-use Rattle.unit.specs.State.{freshState, mostSymbols, tableLength}
-use Rattle.unit.specs.Listed.{Step, refused, accepted, leastListed}
+use Rattle.state.specs.State.{freshState}
+use Rattle.unit.specs.Pairs.{subsequences, mostSymbols, tableLength}
+use Rattle.state.specs.Listed.{Step, refused, accepted, indexPlace, headBytes, linkFields, leastListed}
 use Rattle.unit.specs.declared.Unit.{Unit}
 use Rattle.frame.specs.Hex.{unhex}
 use Rattle.record.specs.Record.{stepOf}
@@ -48,7 +50,7 @@ abbrev symbols : List ℕ
 symbols = replicate mostSymbols 0 ++ (5 ∷ []) ++ replicate (tableLength - mostSymbols - 1) 0
 
 abbrev counts : List ℕ
-counts = 1 ∷ 1 ∷ 0 ∷ 0 ∷ 0 ∷ 0 ∷ 0 ∷ 0 ∷ []
+counts = 1 ∷ 1 ∷ replicate (subsequences - 2) 0
 
 -- the first record of a unit
 abbrev call : Unit → String → Step
@@ -63,11 +65,11 @@ outcome look (accepted frame next) = look frame
 
 -- the E-CIGAR of the only segment, behind its position, rcomp, read length, so many bases and the E-CIGAR's length
 abbrev ecigar : ℕ → Step → List ℕ
-ecigar bases s = outcome (drop (leastListed + 7 + bases + 2)) s
+ecigar bases s = outcome (drop (leastListed + segmentFields + bases)) s
 
 -- the indexes of subsequences 0 and 1, read1First, splitMate, segments, and the mate's sequence id and position
 abbrev link : Step → List ℕ
-link s = outcome (λ frame. take 4 (drop 3 frame) ++ take 9 (drop 19 frame)) s
+link s = outcome (λ frame. take 4 (drop indexPlace frame) ++ take linkFields (drop headBytes frame)) s
 
 abbrev whole : Step → List ℕ
 whole s = outcome (λ frame. frame) s

@@ -7,11 +7,11 @@ use opening::first::write_first;
 use program::sink::write;
 use resuming::place::Go;
 use resuming::place::place;
+use state::State;
+use state::listed::ListedLine;
 use stream::source::Source;
 use stream::source::piece;
 use stream::source::ready;
-use unit::State;
-use unit::listed::ListedLine;
 use writing::lay::Wrote;
 ghost use Prim.Native.Nat.{_≤_};
 ghost use lib.ListN.{length};
@@ -113,7 +113,7 @@ fn record_count(front: FrontRead) -> u32 {
 }
 
 // The first and the last kept line are read again, and put beside the listing's first line.
-fn look(fd: i32, keep: Keep, front: FrontRead, counts: [u32; State::SUBSEQUENCES]) -> Found {
+fn look(fd: i32, keep: Keep, front: FrontRead, counts: &[u32]) -> Found {
     let mut first = [0u8; EDGE];
     let Edge::Bytes(a) = read_edge(fd, 0, keep.first, &mut first) else {
         return unread();
@@ -139,12 +139,7 @@ fn look(fd: i32, keep: Keep, front: FrontRead, counts: [u32; State::SUBSEQUENCES
 }
 
 // What a found file comes to, for a front with these symbol counts.
-pub fn find(
-    fd: i32,
-    front: FrontRead,
-    counts: [u32; State::SUBSEQUENCES],
-    buf: &mut [u8],
-) -> Found {
+pub fn find(fd: i32, front: FrontRead, counts: &[u32], buf: &mut [u8]) -> Found {
     let s = scan(fd, buf);
     if s.source.failed {
         return unread();

@@ -8,3 +8,4 @@ pub mod StepLaws
 pub mod StoreLaws
 pub mod DecodeLaws
 pub mod AnswerLaws
+pub mod SameLaws

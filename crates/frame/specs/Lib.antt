@@ -3,4 +3,5 @@ pub mod Line
 pub mod Next
 pub mod Field
 pub mod Steps
+pub mod Same
 pub mod code

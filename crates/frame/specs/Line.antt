@@ -2,19 +2,20 @@
 -- Assumes nothing.
 use mathlib.Core.Bool.{cond}
 use mathlib.Core.List.{List, [], _∷_, _++_}
-use Prim.Native.Nat.{ℕ, _-_, _/_, _%_}
+use Prim.Native.Nat.{ℕ, _-_, _*_, _/_, _%_}
 use Prim.Native.Char.{code}
 use lib.Dec.{ltb, eqb}
 use lib.ListN.{length, take, getD}
 use Rattle.refusal.specs.Numbers.{fine, malformed}
+use Rattle.limits.specs.Limits.{mostFrame}
 use Rattle.frame.specs.Hex.{hexOf, allDigits}
 use Rattle.frame.specs.Steps.{unless}
 use Rattle.frame.specs.declared.line.Line.{Line}
 use Rattle.frame.specs.declared.line.Line.the-variants.{Frame, Malformed}
 
--- the most digits of an input line
+-- the most digits of an input line, those of the longest record: 20,058
 abbrev pub lineDigits : ℕ
-lineDigits = 20058
+lineDigits = 2 * mostFrame
 
 -- the byte that ends a line
 abbrev pub lineEnd : ℕ

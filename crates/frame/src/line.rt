@@ -1,4 +1,5 @@
 // A line: lower-case hexadecimal digits, two a byte, ended by 0A.
+use limits::Limit;
 ghost use mathlib.Core.Path.{_≡_};
 ghost use mathlib.Core.Bool.{cond, not};
 ghost use Prim.Native.Nat.{_+_, _≤_};
@@ -17,8 +18,8 @@ pub enum Line {
 }
 
 impl Line {
-    // The most digits of an input line.
-    pub const DIGITS: usize = 20_058;
+    // The most digits of an input line: those of the longest record.
+    pub const DIGITS: usize = 2 * Limit::FRAME;
 
     // The byte that ends a line.
     pub const END: u8 = b'\n';

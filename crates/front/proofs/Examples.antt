@@ -8,7 +8,7 @@ use Rattle.frame.specs.Hex.{isDigit, glyph, nib, hexOf, unhex, allDigits}
 use Rattle.frame.specs.Line.{lineWithin, lineOfBytes}
 use Rattle.frame.specs.Field.{bigAt, fieldAt}
 use Rattle.unit.specs.Unit.{classM, leastSegments}
-use Rattle.unit.specs.State.{tableLength}
+use Rattle.unit.specs.Pairs.{tableLength}
 use Rattle.front.specs.UnitLine.{unitEnds, unitTemplate, unitClass, unitLine, unitNumber}
 use Rattle.front.specs.PairLine.{pairSymbols, pairCount, pairLine, pairNumber}
 use Rattle.front.specs.ReferenceLine.{addedBases, referenceLine, referenceNumber}

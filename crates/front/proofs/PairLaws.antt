@@ -16,7 +16,7 @@ use Rattle.frame.proofs.StepLaws.{past-line, past-field, past-refusal, past-lim
 use Rattle.frame.proofs.StoreLaws.{Left, left-start, length-stored}
 use Rattle.unit.specs.Kinds.{kindPair}
 use Rattle.frame.specs.Steps.{storedAt}
-use Rattle.unit.specs.State.{mostSymbols, subsequences, tableLength, symbolPlace}
+use Rattle.unit.specs.Pairs.{mostSymbols, subsequences, tableLength, symbolPlace}
 use Rattle.front.specs.PairLine.{symbolBytes, pairHead, pairMisframed, pairSymbols, pairCount, pairLine, symbolList, tableBy, tableAfter}
 use Rattle.front.specs.declared.pair_line.PairLine.{PairLine}
 use Rattle.front.specs.declared.pair_line.PairLine.the-variants.{Count, Refused}

@@ -12,7 +12,7 @@ use Rattle.frame.specs.Field.{bigAt, withField, fieldNumber}
 use Rattle.frame.specs.declared.line.Line.the-variants.{Malformed}
 use Rattle.frame.specs.declared.field.Field.the-variants.{Short}
 use Rattle.unit.specs.Kinds.{kindPair}
-use Rattle.unit.specs.State.{subsequences, mostSymbols, symbolPlace, tableLength}
+use Rattle.unit.specs.Pairs.{subsequences, mostSymbols, symbolPlace, tableLength}
 use Rattle.frame.specs.Steps.{unless, afterLine, storedAt}
 use Rattle.front.specs.declared.pair_line.PairLine.{PairLine}
 use Rattle.front.specs.declared.pair_line.PairLine.the-variants.{Count, Refused}

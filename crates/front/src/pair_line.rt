@@ -6,7 +6,7 @@ use frame::field::read_u16;
 use frame::field::read_u32;
 use frame::line::Line;
 use frame::line::line_of;
-use unit::State;
+use unit::Pairs;
 use unit::kind::Kind;
 ghost use mathlib.Core.Path.{_≡_};
 ghost use mathlib.Core.List.{[], _∷_};
@@ -43,7 +43,7 @@ impl PairLine {
 fn check_symbols(line: &[u8], count: u32, c: Cursor) -> PairLine
     ensures { λ r. ⌜ r ≡ pairSymbols (unhex (now (line .entry))) count (c .at) ⌝ }
 {
-    if State::SYMBOLS < count {
+    if Pairs::SYMBOLS < count {
         return PairLine::Refused(refusal::COUNT_OUT);
     }
     let at = c.at;
@@ -116,17 +116,17 @@ pub fn read(line: &[u8], number: u32, table: &mut [u32]) -> PairLine
     ensures { λ r. ⌜ r ≡ pairLine (now (line .entry)) number (length (now (table .entry))) ⌝ }
     ensures { λ _. ⌜ now (table .exit) ≡ tableAfter (now (line .entry)) number (now (table .entry)) ⌝ }
 {
-    if table.len() != State::TABLE {
+    if table.len() != Pairs::TABLE {
         return PairLine::Refused(refusal::COUNT_OUT);
     }
     let row = number as usize;
-    if State::SUBSEQUENCES <= row {
+    if Pairs::SUBSEQUENCES <= row {
         return PairLine::Refused(refusal::MISFRAMED);
     }
     let answer = read_count(line, number);
     let PairLine::Count(count) = answer else {
         return answer;
     };
-    lay_symbols(line, table, row * (State::SYMBOLS as usize), count as usize);
+    lay_symbols(line, table, row * (Pairs::SYMBOLS as usize), count as usize);
     answer
 }

@@ -1,36 +1,34 @@
 -- What one call lays, the next one reads: the numbers of a unit, of a state and of what is known of a found file, there and back.
 -- Assumes nothing.
-use Prim.Native.Nat.{ℕ, suc, _*_}
+use Prim.Native.Nat.{ℕ, _*_}
 use native.Mathlib.Omega.{arith}
 use mathlib.Core.Path.{_≡_, refl, ap}
 use mathlib.Core.Bool.{Bool, true, false, not}
 use mathlib.Core.List.{List}
 use lib.Dec.{eqb, ltb}
-use lib.ListN.{length, length-drop}
-use borrow.Author.Tests.{eq-eqb, eqb-true}
+use lib.ListN.{length}
 use Rattle.frame.proofs.HexLaws.{by-test}
-use Rattle.unit.specs.State.{subsequences}
-use Rattle.unit.specs.Listed.{indexPlace, Step, refused, accepted}
+use Rattle.unit.specs.Pairs.{subsequences}
+use Rattle.state.specs.Listed.{indexPlace, Step, refused, accepted, stateAt}
 use Rattle.unit.specs.declared.Unit.{Unit}
-use Rattle.unit.specs.declared.State.{State}
+use Rattle.state.specs.declared.State.{State}
 use Rattle.record.specs.Record.{stepOf, withRoom, recordOf}
 use Rattle.record.proofs.RecordLaws.{step-accepted}
 use Rattle.frame.specs.Hex.{unhex}
-use Rattle.listing.specs.Lines.{sameList}
-use Rattle.listing.specs.Resuming.{Last, stateAt, Edges, nothing, edges, onLast, placeBy}
-use Rattle.listing.proofs.LastLaws.{length-wordsAt, Sorted, listed, closed05, closed06, other, sorted}
+use Rattle.frame.specs.Same.{sameList}
+use Rattle.listing.specs.Resuming.{Last, Edges, nothing, edges, onLast, placeBy}
+use Rattle.listing.proofs.LastLaws.{Sorted, listed, closed05, closed06, other, sorted}
+use Rattle.state.proofs.HeadLaws.{length-wordsAt}
+use Rattle.state.proofs.NumberLaws.{state-again, length-state}
 use Rattle.resuming.specs.Last.{placedOf}
 use Rattle.kept.specs.declared.keep.Keep.{Keep}
-use Rattle.lampbuckle.specs.Numbers.{unitNumbers, unitOf, stateLength, stateNumbers, stateOf, flag, keepNumbers, keepOf}
+use Rattle.lampbuckle.specs.Numbers.{unitNumbers, unitOf, flag, keepNumbers, keepOf}
+use Rattle.state.specs.Numbers.{stateNumbers, stateOf}
+use Rattle.state.specs.State.{indexCount, Shaped}
 
 -- the unit that `lampbuckle_unit_line` laid
 pub unit-again : (u : Unit) → unitOf (unitNumbers u) ≡ u
 unit-again u = refl
-
--- a state that has an index for each subsequence
-pub state-again : (s : State) → length (s .index) ≡ subsequences → stateOf (stateNumbers s) ≡ s
-unfolding stateOf
-state-again s e = rw (eq-eqb (suc (length (s .index))) stateLength (ap suc e))
 
 -- what `lampbuckle_keep` laid
 pub keep-again : (k : Keep) → keepOf (keepNumbers k) ≡ k
@@ -42,21 +40,13 @@ keep-again k = ap (λ (b : Bool). record { first = k .first; last = k .last; kep
 
 -- ---- every state that a call lays has an index for each subsequence
 
--- as every state has that is lent
-length-state : (numbers : List ℕ) → length (stateOf numbers .index) ≡ subsequences
-unfolding stateOf
-length-state numbers =
-    by-test (eqb (length numbers) stateLength)
-    (λ t. rw t (let q = length-drop 1 numbers in omega (arith, q, eqb-true (length numbers) stateLength t)))
-    (λ t. rw t refl)
-
 -- the state that `lampbuckle_record` lays
 pub next-state-again : (u : Unit) (reference symbols counts numbers line : List ℕ) (room : ℕ) (frame : List ℕ) (next : State)
     → recordOf u reference symbols counts (stateOf numbers) line room ≡ accepted frame next → stateOf (stateNumbers next) ≡ next
 unfolding recordOf
 next-state-again u reference symbols counts numbers line room frame next e = state-again next (by (stepOf u reference symbols counts (stateOf numbers) line) refl e)
   where
-    by : (t : Step) → stepOf u reference symbols counts (stateOf numbers) line ≡ t → withRoom room t ≡ accepted frame next → length (next .index) ≡ subsequences
+    by : (t : Step) → stepOf u reference symbols counts (stateOf numbers) line ≡ t → withRoom room t ≡ accepted frame next → Shaped next
     by (refused n) q r = absurd (let z : _≡_ {A = ℕ} 0 1 = cc in omega arith)
     by (accepted g s) q r =
         by-test (ltb (2 * length g) room)
@@ -73,17 +63,17 @@ next-state-again u reference symbols counts numbers line room frame next e = sta
 pub place-state-again : (first : List ℕ) (count : ℕ) (counts : List ℕ) (e : Edges) → length counts ≡ subsequences
     → stateOf (stateNumbers (placedOf (placeBy first count counts e) .state)) ≡ placedOf (placeBy first count counts e) .state
 unfolding placedOf stateAt
-place-state-again first count counts e eight = state-again (placedOf (placeBy first count counts e) .state) (by e)
+place-state-again first count counts e shaped = state-again (placedOf (placeBy first count counts e) .state) (by e)
   where
-    said : (z : List ℕ) {t : Last} → Sorted count counts z t → length (placedOf (onLast t) .state .index) ≡ subsequences
-    said z (listed w) = length-wordsAt subsequences (unhex z) indexPlace
+    said : (z : List ℕ) {t : Last} → Sorted count counts z t → length (placedOf (onLast t) .state .index) ≡ indexCount
+    said z (listed w) = length-wordsAt indexCount (unhex z) indexPlace
     said z (closed05 w) = refl
     said z (closed06 w) = refl
     said z (other a b d) = refl
 
-    by : (e : Edges) → length (placedOf (placeBy first count counts e) .state .index) ≡ subsequences
+    by : (e : Edges) → length (placedOf (placeBy first count counts e) .state .index) ≡ indexCount
     by nothing = refl
     by (edges a z) =
         by-test (sameList a first)
-        (λ t. rw t (by-test (sameList z first) (λ u. rw u refl) (λ u. rw u (said z (sorted count counts z eight)))))
+        (λ t. rw t (by-test (sameList z first) (λ u. rw u refl) (λ u. rw u (said z (sorted count counts z shaped)))))
         (λ t. rw t refl)

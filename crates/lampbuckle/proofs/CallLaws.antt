@@ -11,16 +11,17 @@ use borrow.Author.Tests.{ltb-true, eqb-true, eqb-false, eq-eqb}
 use Rattle.refusal.specs.Numbers.{fine}
 use Rattle.frame.proofs.HexLaws.{by-test}
 use Rattle.unit.specs.Unit.{mostRecords}
-use Rattle.unit.specs.Listed.{Step, refused, accepted}
+use Rattle.state.specs.Listed.{Step, refused, accepted}
 use Rattle.unit.specs.declared.Unit.{Unit}
-use Rattle.unit.specs.declared.State.{State}
+use Rattle.state.specs.declared.State.{State}
 use Rattle.plan.specs.Lent.{lentRefusal}
 use Rattle.record.specs.Record.{withRoom, stepOf, recordOf, recorded, output}
 use Rattle.record.specs.declared.Answer.the-variants as answer
 use Rattle.record.specs.declared.Recorded.{Recorded}
 use Rattle.record.proofs.CallLaws.{lent-refused, number-fits}
 use Rattle.lampbuckle.specs.Answer.{minus, outcome}
-use Rattle.lampbuckle.specs.Numbers.{unitLength, unitOf, stateLength, stateOf, stateNumbers}
+use Rattle.lampbuckle.specs.Numbers.{unitLength, unitOf}
+use Rattle.state.specs.Numbers.{stateLength, stateOf, stateNumbers}
 use Rattle.lampbuckle.specs.Call.{recordAnswered, recordCall}
 
 -- ---- a step, by the code's answer

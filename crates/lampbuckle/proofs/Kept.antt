@@ -10,12 +10,12 @@ use lib.ListN.{length}
 use Rattle.refusal.specs.Numbers.{fine}
 use Rattle.writing.specs.Whole.{wroteOf, lineInto}
 use Rattle.frame.proofs.HexLaws.{by-test}
-use Rattle.unit.specs.Listed.{Step, refused, accepted}
+use Rattle.state.specs.Listed.{Step, refused, accepted}
 use Rattle.front.specs.UnitLine.{unitLine, unitBytes}
 use Rattle.front.specs.PairLine.{pairLine}
 use Rattle.front.specs.ReferenceLine.{referenceLine}
-use Rattle.unit.specs.State.{subsequences}
-use Rattle.unit.specs.declared.State.{State}
+use Rattle.unit.specs.Pairs.{subsequences}
+use Rattle.state.specs.declared.State.{State}
 use Rattle.front.specs.declared.unit_line.UnitLine.{UnitLine}
 use Rattle.front.specs.declared.unit_line.UnitLine.the-variants as unit
 use Rattle.front.specs.declared.pair_line.PairLine.{PairLine}
@@ -28,7 +28,8 @@ use Rattle.listing.specs.Resuming.{edgesFrom, placeBy}
 use Rattle.resuming.specs.declared.place.Go.{Go}
 use Rattle.resuming.specs.declared.place.Go.the-variants.{Afresh, Second, On, Over, Refused}
 use Rattle.lampbuckle.specs.Answer.{Outcome, Kept}
-use Rattle.lampbuckle.specs.Numbers.{unitLength, unitOf, unitNumbersRefusal, stateLength, stateOf, keepLength}
+use Rattle.lampbuckle.specs.Numbers.{unitLength, unitOf, unitNumbersRefusal, keepLength}
+use Rattle.state.specs.Numbers.{stateLength, stateOf}
 use Rattle.lampbuckle.specs.Lines.{unitAnswered, unitCall, pairAnswered, pairCall, referenceAnswered, referenceCall}
 use Rattle.lampbuckle.specs.Call.{recordAnswered, recordCall}
 use Rattle.lampbuckle.specs.Write.{writtenCall, unitWritten}

@@ -7,7 +7,7 @@ use native.Mathlib.Omega.{arith}
 use lib.IntN.{ℤ, pos}
 use lib.ListN.{length, set}
 use borrow.Author.Tests.{eq-eqb}
-use Rattle.unit.specs.State.{subsequences}
+use Rattle.unit.specs.Pairs.{subsequences}
 use Rattle.front.specs.UnitLine.{unitLine}
 use Rattle.front.specs.PairLine.{pairLine, tableAfter}
 use Rattle.front.specs.ReferenceLine.{referenceLine, referenceAfter}

@@ -9,7 +9,7 @@ use lib.Dec.{lit<}
 use lib.IntN.{ℤ, pos}
 use lib.ListN.{length, getD}
 use borrow.Author.Tests.{eq-eqb}
-use Rattle.unit.specs.State.{subsequences}
+use Rattle.unit.specs.Pairs.{subsequences}
 use Rattle.kept.specs.Keep.{keepAll}
 use Rattle.resuming.specs.Pass.{passOver}
 use Rattle.resuming.proofs.PassLaws.{pass-within}
@@ -19,7 +19,8 @@ use Rattle.kept.specs.declared.keep.Keep.{Keep}
 use Rattle.resuming.specs.declared.pass.Passed.{Passed}
 use Rattle.resuming.specs.declared.place.WhereTo.{WhereTo}
 use Rattle.lampbuckle.specs.Answer.{Outcome, outcome}
-use Rattle.lampbuckle.specs.Numbers.{stateLength, keepLength, flag, keepNumbers, keepOf}
+use Rattle.lampbuckle.specs.Numbers.{keepLength, flag, keepNumbers, keepOf}
+use Rattle.state.specs.Numbers.{stateLength}
 use Rattle.lampbuckle.specs.Resume.{keepCall, byGo, placeCall, wantedLength, passCall}
 
 -- ---- what is kept
@@ -38,10 +39,10 @@ module _ (piece lent : List ℕ) {a : ℤ} where
 
 module _ (listed : List ℕ) (count : ℕ) (counts first last lent : List ℕ) where
   module _ (shape : length counts ≡ subsequences) where
-    pub place-found : length lent ≡ stateLength → {c : List ℕ} {p : WhereTo} {x : Outcome} → c ≡ counts → p ≡ placedOf (placeBy listed count c (edgesFrom first last)) → x ≡ byGo (p .go) (p .state) lent
+    pub place-found : length lent ≡ stateLength → {p : WhereTo} {x : Outcome} → p ≡ placedOf (placeBy listed count counts (edgesFrom first last)) → x ≡ byGo (p .go) (p .state) lent
         → x ≡ placeCall listed count counts first last lent
     unfolding placeCall
-    place-found h c p e = rw (eq-eqb _ _ shape, eq-eqb _ _ h, ← c, ← p) e
+    place-found h p e = rw (eq-eqb _ _ shape, eq-eqb _ _ h, ← p) e
 
 -- ---- lines passed over
 

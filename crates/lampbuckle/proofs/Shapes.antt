@@ -10,14 +10,16 @@ use borrow.Author.Tests.{eqb-true, eqb-false, eq-eqb, ne-eqb, le-leb}
 use Rattle.refusal.specs.Numbers.{fine, missing}
 use Rattle.frame.proofs.HexLaws.{by-test}
 use Rattle.unit.specs.Unit.{mostReference, mostRecords, unitRefusal}
-use Rattle.unit.specs.State.{subsequences, tableLength, within}
+use Rattle.unit.specs.Pairs.{subsequences, tableLength}
+use Rattle.state.specs.State.{within}
 use Rattle.unit.specs.declared.Unit.{Unit}
-use Rattle.unit.specs.declared.State.{State}
+use Rattle.state.specs.declared.State.{State}
 use Rattle.unit.proofs.ValidLaws.{valid-is}
 use Rattle.plan.specs.Lent.{countsOut, stateRefusal, lentRefusal}
 use Rattle.record.proofs.CallLaws.{lent-refused}
 use Rattle.lampbuckle.specs.Answer.{refuses}
-use Rattle.lampbuckle.specs.Numbers.{unitLength, unitOf, stateLength, noState, stateOf}
+use Rattle.lampbuckle.specs.Numbers.{unitLength, unitOf}
+use Rattle.state.specs.Numbers.{stateLength, noState, stateOf}
 use Rattle.lampbuckle.specs.Call.{recordCall}
 
 -- the refusal of a state that is refused: the other's own, or 14
@@ -32,7 +34,7 @@ module _ (u : Unit) (bases places : ℕ) (counts : List ℕ) (s : State) where
       rw (le-leb (u .records) mostRecords h)
       (by-test (leb (u .records) (s .number))
       (λ t. rw t)
-      (λ t. rw t (by-test (within (s .index) counts) (λ i. rw i) (λ i. rw i))))
+      (λ t. rw t (by-test (within s counts) (λ i. rw i) (λ i. rw i))))
 
   -- behind the unit, the reference, the table and the counts
   pub state-in-its-place : lentRefusal u bases places counts noState ≡ orMissing (lentRefusal u bases places counts s)

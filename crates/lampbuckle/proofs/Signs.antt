@@ -10,12 +10,12 @@ use lib.Dec.{ltb, eqb, lit<, lit≤}
 use lib.IntN.{pos, pos-ne-negsuc}
 use lib.ListN.{length}
 use Rattle.refusal.specs.Numbers.{fine, unitOut, countOut, missing, otherFirst, otherLast, noRoom, Refusal, FineOrEarly}
-use Rattle.refusal.proofs.RefusalLaws.{early-refusal}
+use Rattle.refusal.proofs.RefusalLaws.{early-refusal, fine-or-early}
 use Rattle.frame.proofs.HexLaws.{by-test}
 use Rattle.frame.proofs.Tests.{one-of}
 use Rattle.writing.specs.Whole.{wroteOf}
-use Rattle.unit.specs.Listed.{Step, refused, accepted}
-use Rattle.unit.specs.State.{subsequences}
+use Rattle.state.specs.Listed.{Step, refused, accepted}
+use Rattle.unit.specs.Pairs.{subsequences}
 use Rattle.unit.proofs.RefusalLaws.{unit-early}
 use Rattle.front.specs.UnitLine.{unitLine, unitBytes}
 use Rattle.front.specs.PairLine.{pairLine}
@@ -29,11 +29,12 @@ use Rattle.front.specs.declared.reference_line.ReferenceLine.the-variants as re
 use Rattle.front.proofs.RefusalLaws.{unit-refusal, pair-refusal, reference-refusal}
 use Rattle.record.specs.Record.{recordOf}
 use Rattle.record.proofs.RefusalLaws.{record-refusal}
-use Rattle.listing.specs.Lines.{sameList}
+use Rattle.frame.specs.Same.{sameList}
 use Rattle.listing.specs.Resuming.{Last, goOn, whole, bad, lastOf, Edges, nothing, edges, edgesFrom, Place, afresh, second, on, over, no, onLast, placeBy}
 use Rattle.resuming.specs.Last.{placedOf}
 use Rattle.lampbuckle.specs.Answer.{minus, Outcome}
-use Rattle.lampbuckle.specs.Numbers.{unitLength, unitOf, unitNumbersRefusal, stateLength, stateOf, keepLength}
+use Rattle.lampbuckle.specs.Numbers.{unitLength, unitOf, unitNumbersRefusal, keepLength}
+use Rattle.state.specs.Numbers.{stateLength, stateOf}
 use Rattle.lampbuckle.specs.Lines.{unitAnswered, unitCall, pairAnswered, pairCall, referenceAnswered, referenceCall}
 use Rattle.lampbuckle.specs.Call.{recordAnswered, recordCall}
 use Rattle.lampbuckle.specs.Write.{writtenCall, unitWritten}
@@ -147,14 +148,14 @@ written-signed frame out =
 
 numbers-early : (numbers : List ℕ) → FineOrEarly (unitNumbersRefusal numbers)
 unfolding unitNumbersRefusal
-numbers-early numbers = one-of FineOrEarly (eqb (length numbers) unitLength) _ _ (unit-early (unitOf numbers)) (lit< tt)
+numbers-early numbers = one-of FineOrEarly (eqb (length numbers) unitLength) _ _ (unit-early (unitOf numbers)) (fine-or-early tt)
 
 pub unit-written-signed : (numbers out : List ℕ) → Signed (unitWritten numbers out) ((unitNumbersRefusal numbers ≡ fine) × (2 * length (unitBytes (unitOf numbers)) < length out))
 unfolding unitWritten
 unit-written-signed numbers out =
     by-test (eqb (unitNumbersRefusal numbers) fine)
     (λ t. rw t (both (eqb-true _ _ t) (written-signed (unitBytes (unitOf numbers)) out)))
-    (λ t. let some = eqb-false _ _ t in rw t (is-refused (λ o. some (o .0)) (minus-told (unitNumbersRefusal numbers) (omega (arith, some), omega (arith, numbers-early numbers)) refl)))
+    (λ t. let some = eqb-false _ _ t in rw t (is-refused (λ o. some (o .0)) (minus-told (unitNumbersRefusal numbers) (omega (arith, some), numbers-early numbers .0) refl)))
   where
     both : {x : Outcome} {Ok : Type 0} → unitNumbersRefusal numbers ≡ fine → Signed x Ok → Signed x ((unitNumbersRefusal numbers ≡ fine) × Ok)
     both e (is-accepted o c) = is-accepted (e, o) c

@@ -6,7 +6,7 @@ use mathlib.Core.List.{List, [], _∷_}
 use lib.Dec.{eqb}
 use lib.ListN.{length, set}
 use Rattle.refusal.specs.Numbers.{unitOut, countOut}
-use Rattle.unit.specs.State.{subsequences}
+use Rattle.unit.specs.Pairs.{subsequences}
 use Rattle.front.specs.UnitLine.{unitLine, unitNumber}
 use Rattle.front.specs.PairLine.{pairLine, pairNumber, tableAfter}
 use Rattle.front.specs.ReferenceLine.{referenceLine, referenceNumber, referenceAfter}

@@ -1,15 +1,13 @@
--- A unit, a state and what is known of a found file, as the numbers that C lends.
+-- A unit and what is known of a found file, as the numbers that C lends.
 -- Assumes nothing.
-use Prim.Native.Nat.{ℕ, suc}
+use Prim.Native.Nat.{ℕ}
 use mathlib.Core.Bool.{Bool, cond, not}
 use mathlib.Core.List.{List, [], _∷_}
 use lib.Dec.{eqb}
-use lib.ListN.{length, getD, drop, replicate}
+use lib.ListN.{length, getD}
 use Rattle.refusal.specs.Numbers.{unitOut}
-use Rattle.unit.specs.Unit.{mostRecords, unitRefusal}
-use Rattle.unit.specs.State.{subsequences}
+use Rattle.unit.specs.Unit.{unitRefusal}
 use Rattle.unit.specs.declared.Unit.{Unit}
-use Rattle.unit.specs.declared.State.{State}
 use Rattle.kept.specs.declared.keep.Keep.{Keep}
 
 -- how many numbers a unit is
@@ -38,22 +36,6 @@ unitOf numbers =
 -- numbers of another shape, or a value outside its range: 3
 unfoldable pub unitNumbersRefusal : List ℕ → ℕ
 unitNumbersRefusal numbers = cond (eqb (length numbers) unitLength) (unitRefusal (unitOf numbers)) unitOut
-
--- how many numbers a state is
-abbrev pub stateLength : ℕ
-stateLength = suc subsequences
-
--- the numbers of a state: the record number and the eight indexes (document 01, Order)
-abbrev pub stateNumbers : State → List ℕ
-stateNumbers st = st .number ∷ st .index
-
--- a state that no unit has: its number is not below any record count
-abbrev pub noState : State
-noState = record { number = mostRecords; index = replicate subsequences 0 }
-
--- the state that lent numbers are; those of another shape are none that a unit has, so that they are refused by 14 in its place
-unfoldable pub stateOf : List ℕ → State
-stateOf numbers = cond (eqb (length numbers) stateLength) (record { number = getD numbers 0 0; index = drop 1 numbers }) noState
 
 -- how many numbers say what is known of a found file
 abbrev pub keepLength : ℕ

@@ -6,8 +6,8 @@ use mathlib.Core.List.{List, [], _∷_}
 use lib.Dec.{eqb}
 use lib.ListN.{length, getD}
 use Rattle.refusal.specs.Numbers.{countOut, missing}
-use Rattle.unit.specs.State.{subsequences}
-use Rattle.unit.specs.declared.State.{State}
+use Rattle.unit.specs.Pairs.{subsequences}
+use Rattle.state.specs.declared.State.{State}
 use Rattle.kept.specs.Keep.{keepAll}
 use Rattle.resuming.specs.Pass.{passOver}
 use Rattle.listing.specs.Resuming.{edgesFrom, placeBy}
@@ -18,7 +18,8 @@ use Rattle.resuming.specs.declared.place.Go.{Go}
 use Rattle.resuming.specs.declared.place.Go.the-variants.{Afresh, Second, On, Over, Refused}
 use Rattle.resuming.specs.declared.place.WhereTo.{WhereTo}
 use Rattle.lampbuckle.specs.Answer.{Outcome, answers, refuses}
-use Rattle.lampbuckle.specs.Numbers.{stateLength, stateNumbers, keepLength, flag, keepNumbers, keepOf}
+use Rattle.lampbuckle.specs.Numbers.{keepLength, flag, keepNumbers, keepOf}
+use Rattle.state.specs.Numbers.{stateLength, stateNumbers}
 
 -- ---- what is kept, read in pieces
 

@@ -3,6 +3,7 @@ use crate::answer::counted;
 use crate::answer::refused;
 use crate::numbers;
 use record::Answer;
+use state::numbers as state_numbers;
 ghost use mathlib.Core.Path.{_≡_};
 ghost use mathlib.Core.List.{[], _∷_};
 ghost use Rattle.lampbuckle.specs.Answer.{outcome};
@@ -25,14 +26,14 @@ pub extern "C" fn lampbuckle_record(
         return refused(refusal::UNIT_OUT);
     }
     let u = numbers::read_unit(unit);
-    let before = numbers::read_state(&state[..]);
+    let before = state_numbers::read(&state[..]);
     let r = record::record(u, reference, symbols, counts, before, line, out);
     let answer = r.answer;
     let next = r.state;
     match answer {
         Answer::Refused(n) => refused(n),
         Answer::Listed(n) => {
-            numbers::lay_state(state, next);
+            state_numbers::lay(state, next);
             counted(n)
         }
     }

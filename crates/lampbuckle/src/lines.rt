@@ -8,7 +8,7 @@ use front::reference_line;
 use front::reference_line::ReferenceLine;
 use front::unit_line;
 use front::unit_line::UnitLine;
-use unit::State;
+use unit::Pairs;
 ghost use mathlib.Core.Path.{_≡_};
 ghost use mathlib.Core.List.{[], _∷_};
 ghost use Rattle.lampbuckle.specs.Answer.{outcome};
@@ -41,7 +41,7 @@ pub extern "C" fn lampbuckle_pair_line(
 ) -> i64
     ensures { λ r. ⌜ outcome r (now (symbols .exit) ∷ now (counts .exit) ∷ []) ≡ pairCall (now (line .entry)) subsequence (now (symbols .entry)) (now (counts .entry)) ⌝ }
 {
-    if counts.len() != State::SUBSEQUENCES {
+    if counts.len() != Pairs::SUBSEQUENCES {
         return refused(refusal::COUNT_OUT);
     }
     match pair_line::read(line, subsequence, symbols) {

@@ -4,13 +4,15 @@ use crate::answer::refused;
 use crate::numbers;
 use resuming::place::Go;
 use resuming::place::WhereTo;
-use unit::State;
+use state::State;
+use state::numbers as state_numbers;
+use unit::Pairs;
 ghost use mathlib.Core.Path.{_≡_};
 ghost use mathlib.Core.List.{[], _∷_};
 ghost use Prim.Native.Nat.{_<_, _^_};
 ghost use lib.ListN.{length};
 ghost use Rattle.lampbuckle.specs.Answer.{outcome};
-ghost use Rattle.lampbuckle.specs.Numbers.{stateLength};
+ghost use Rattle.state.specs.Numbers.{stateLength};
 ghost use Rattle.lampbuckle.specs.Resume.{placeAfresh, placeSecond, placeOn, placeOver, wantedLength, keepCall, goesOn, byGo, placeCall, passCall};
 
 // Where to go on, as a number: the whole listing is added, or all behind its first line, or all behind a record, or nothing.
@@ -51,7 +53,7 @@ fn go_on(number: usize, next: State, state: &mut [u32]) -> i64
     requires { ⌜ number < 2 ^ 63 ⌝ }
     ensures { λ r. ⌜ outcome r (now (state .exit) ∷ []) ≡ goesOn number next ⌝ }
 {
-    numbers::lay_state(state, next);
+    state_numbers::lay(state, next);
     counted(number)
 }
 
@@ -83,14 +85,13 @@ pub extern "C" fn lampbuckle_place(
 ) -> i64
     ensures { λ r. ⌜ outcome r (now (state .exit) ∷ []) ≡ placeCall (now (listed .entry)) count (now (counts .entry)) (now (first .entry)) (now (last .entry)) (now (state .entry)) ⌝ }
 {
-    if counts.len() != State::SUBSEQUENCES {
+    if counts.len() != Pairs::SUBSEQUENCES {
         return refused(refusal::COUNT_OUT);
     }
-    if state.len() != numbers::STATE {
+    if state.len() != state_numbers::STATE {
         return refused(refusal::MISSING);
     }
-    let all = numbers::read_counts(counts);
-    let p = resuming::place::place(listed, count, all, first, last);
+    let p = resuming::place::place(listed, count, counts, first, last);
     settle(p, state)
 }
 

@@ -10,7 +10,8 @@ use program::args::is_whole;
 use program::sink::Sink;
 use rest::finish;
 use rest::rest;
-use unit::State;
+use state::State;
+use unit::Pairs;
 use unit::Unit;
 
 fn usage(fd: i32) {
@@ -23,7 +24,7 @@ fn list(reference_path: &[u8], unit_path: &[u8]) {
     let mut buf = io::large_buffer();
     let mut out = io::large_buffer();
     let mut reference = [0u8; Unit::REFERENCE];
-    let mut symbols = [0u32; State::TABLE];
+    let mut symbols = [0u32; Pairs::TABLE];
     let opened = open(
         reference_path,
         unit_path,

@@ -7,12 +7,12 @@ use mathlib.Core.List.{List, [], _∷_}
 use lib.ListN.{length, getD, drop}
 use Rattle.refusal.specs.Numbers.{missing}
 use Rattle.frame.proofs.LineLaws.{lineOfBytes}
-use Rattle.unit.specs.State.{subsequences}
-use Rattle.unit.specs.declared.State.{State}
-use Rattle.unit.specs.Listed.{Step, refused, accepted}
+use Rattle.state.specs.declared.State.{State}
+use Rattle.state.specs.Listed.{Step, refused, accepted}
 use Rattle.listing.specs.Record.{Setup, Accepted, Lawful}
 use Rattle.listing.specs.Listing.{line05, lastLine, records, stateBehind}
 use Rattle.listing.specs.Resuming.{lastFrom}
+use Rattle.state.specs.State.{Shaped}
 
 -- the last line behind i accepted records, of k, from the state `before` behind them
 pub data LastBy (E : Setup) (k : ℕ) (ls : List (List ℕ)) (i : ℕ) (before : State) : List ℕ → Type 0 where
@@ -33,13 +33,13 @@ later l (by-end h e) = by-end (omega arith) (ap suc e)
 later l (by-rest e h) = by-rest (ap suc e) (omega arith)
 
 module _ {E : Setup} (w : Lawful E) where
-  pub records-ended : (k : ℕ) (s : State) (ls : List (List ℕ)) (z : List ℕ) → length (s .index) ≡ subsequences → Ended E k s ls z
+  pub records-ended : (k : ℕ) (s : State) (ls : List (List ℕ)) (z : List ℕ) → Shaped s → Ended E k s ls z
   unfolding records lastFrom stateBehind
   records-ended zero s ls z x = record { count = 0; lines = refl; number = omega arith; last = by-rest refl (omega arith) }
   records-ended (suc k) s [] z x = record { count = 0; lines = refl; number = omega arith; last = by-end (omega arith) refl }
   records-ended (suc k) s (l ∷ ls) z x = by (E .step s l) refl (λ next y. records-ended k next ls y)
     where
-      by : (t : Step) → E .step s l ≡ t → ((next : State) (y : List ℕ) → length (next .index) ≡ subsequences → Ended E k next ls y) → Ended E (suc k) s (l ∷ ls) z
+      by : (t : Step) → E .step s l ≡ t → ((next : State) (y : List ℕ) → Shaped next → Ended E k next ls y) → Ended E (suc k) s (l ∷ ls) z
       by (refused n) e go = record { count = 0; lines = rw e; number = omega arith; last = rw e (by-call n (omega arith) (omega arith) e) }
       by (accepted frame next) e go =
           let a : Accepted E s l frame next = w .acceptance s l frame next x e in

@@ -3,9 +3,9 @@
 use Prim.Native.Nat.{ℕ, zero, suc}
 use mathlib.Core.Path.{_≡_, refl}
 use mathlib.Core.List.{List, [], _∷_}
-use lib.Dec.{lit<}
 use Rattle.refusal.specs.Numbers.{Early}
-use Rattle.unit.specs.State.{subsequences}
+use Rattle.refusal.proofs.RefusalLaws.{early}
+use Rattle.unit.specs.Pairs.{subsequences}
 use Rattle.listing.specs.Lines.{linesOf}
 use Rattle.listing.specs.Record.{Setup, FirstLine, Lawful}
 use Rattle.listing.specs.Listing.{LawfulFront}
@@ -29,7 +29,7 @@ module _ {Ref Head Pair : Type 0} (readRef : List (List ℕ) → Read Ref) (read
       → ((ps : List Pair) (rest : List (List ℕ)) → All Fine k ps → Lawful (done ps rest)) → LawfulFront (pairs readRef readUnit readPair setup k i u ls done)
   unfolding LawfulFront pairs
   pairs-lawful zero i u w ls done h = h [] ls none
-  pairs-lawful (suc k) i u w [] done h = (w, (lit< tt, lit< tt))
+  pairs-lawful (suc k) i u w [] done h = (w, early tt)
   pairs-lawful (suc k) i u w (l ∷ ls) done h =
       by (readPair i l) refl (λ p f. pairs-lawful k (suc i) u w ls (λ ps rest. done (p ∷ ps) rest) (λ ps rest fs. h (p ∷ ps) rest (one f fs)))
     where
@@ -47,7 +47,7 @@ module _ {Ref Head Pair : Type 0} (readRef : List (List ℕ) → Read Ref) (read
       unit R u ls (wrong n) e = wrong-unit u n e
 
       lines : (R : Ref) (ls : List (List ℕ)) → LawfulFront (onLines readRef readUnit readPair setup R ls)
-      lines R [] = (lit< tt, lit< tt)
+      lines R [] = early tt
       lines R (u ∷ ls) = unit R u ls (readUnit u) refl
 
       by : (t : Read Ref) → readRef (linesOf refFile) ≡ t → LawfulFront (onRef readRef readUnit readPair setup unitFile t)

@@ -1,16 +1,14 @@
 -- The laws of the last kept line: what each line of a listing says, and which lines can be continued.
 -- Assumes nothing.
-use Prim.Native.Nat.{ℕ, zero, suc, _+_, _-_, _*_, _≤_, _<_}
-use native.Mathlib.Nat.{add-zero, zero-add, zero-mul}
-use native.Mathlib.Numerals.{add-one}
+use Prim.Native.Nat.{ℕ, _+_, _*_, _≤_, _<_}
 use native.Mathlib.Omega.{arith}
 use mathlib.Core.Path.{_≡_, refl, sym, ap, _∙_}
-use mathlib.Core.Bool.{true, false}
+use mathlib.Core.Bool.{true}
 use mathlib.Core.Logic.{inl, inr}
-use mathlib.Core.List.{List, [], _∷_, _++_, append-assoc, append-nil}
+use mathlib.Core.List.{List}
 use lib.Dec.{ltb, leb, eqb, lit<, lit≤}
-use lib.ListN.{length, getD, take, set, length-set, List·getD-eq-default}
-use lib.Seq.{take-all, take-suc-set, length-take-le}
+use lib.ListN.{length, getD, take, List·getD-eq-default}
+use lib.Seq.{take-all, length-take-le}
 use borrow.Author.Tests.{lt-ltb, le-ltb, ltb-true, ltb-false, eq-eqb, ne-eqb, eqb-true, eqb-false, leb-true, leb-false}
 use Rattle.frame.specs.Hex.{Bytes, unhex, be}
 use Rattle.frame.specs.Line.{lineWithin}
@@ -18,65 +16,16 @@ use Rattle.frame.specs.Field.{bigAt}
 use Rattle.frame.specs.Steps.{afterLine}
 use Rattle.frame.specs.declared.line.Line.{Line}
 use Rattle.frame.specs.declared.line.Line.the-variants.{Frame, Malformed}
-use Rattle.frame.proofs.HexLaws.{by-test, false-true, byte-lt}
-use Rattle.frame.proofs.FieldLaws.{bigAt-lt}
+use Rattle.frame.proofs.HexLaws.{by-test, false-true}
 use Rattle.frame.proofs.LineLaws.{lineOfBytes, unhex-line, line-is-frame, frame-is-line, line-too-long}
-use Rattle.unit.specs.State.{subsequences, within}
-use Rattle.unit.proofs.StateLaws.{within-all, within-each}
-use Rattle.unit.specs.declared.State.{State}
+use Rattle.unit.specs.Pairs.{subsequences}
+use Rattle.state.specs.State.{within, indexCount}
+use Rattle.state.proofs.StateLaws.{within-all, within-each}
+use Rattle.state.proofs.HeadLaws.{length-wordsAt, wordsAt-each}
 use Rattle.unit.specs.Kinds.{kindListed, kindRefused, kindDone}
-use Rattle.unit.specs.Listed.{mostListed, leastListed, numberPlace, indexPlace}
+use Rattle.state.specs.Listed.{mostListed, leastListed, numberPlace, indexPlace, wordsAt, stateAt, stateBack}
 use Rattle.listing.specs.Listing.{frame05, line05, frame06, line06}
-use Rattle.listing.specs.Resuming.{Last, goOn, whole, bad, bytes05, bytes06, wordsAt, stateAt, listedLast, frameLast, lastOf, ContinuableLine, ClosingLine, Closes}
-
--- ---- the numbers of a frame, one by one
-
-pub word-is : (s : List ℕ) (at a b : ℕ) → a ≡ getD s at 0 → b ≡ getD s (at + 1) 0 → a * 256 + b ≡ bigAt 2 s at
-unfolding bigAt
-word-is s at a b e f = rw (e, f, add-zero, zero-mul, zero-add)
-
--- two bytes hold no more than a u16
-pub word-below : {v : ℕ} (line : List ℕ) (at : ℕ) → v ≡ bigAt 2 (unhex line) at → v < 65536
-word-below line at e = rw e (bigAt-lt 2 (unhex line) at (byte-lt line))
-
--- the indexes, read one after the other into their places
-pub record Words (bs index : List ℕ) (j : ℕ) : Type 0 where
-  pub most : j ≤ subsequences
-  pub all : length index ≡ subsequences
-  pub comes : take j index ++ wordsAt (subsequences - j) bs (indexPlace + 2 * j) ≡ wordsAt subsequences bs indexPlace
-
-pub words-none : (bs index : List ℕ) → length index ≡ subsequences → Words bs index 0
-words-none bs index e = record { most = omega arith; all = e; comes = refl }
-
-pub words-more : (bs index : List ℕ) (j v : ℕ) → Words bs index j → j < subsequences → v ≡ bigAt 2 bs (indexPlace + 2 * j) → Words bs (set index j v) (j + 1)
-unfolding wordsAt
-words-more bs index j v w h e =
-    let one : subsequences - j ≡ suc (subsequences - (j + 1)) = omega arith in
-    let two : indexPlace + 2 * j + 2 ≡ indexPlace + 2 * (j + 1) = omega arith in
-    let next : wordsAt (subsequences - j) bs (indexPlace + 2 * j) ≡ v ∷ wordsAt (subsequences - (j + 1)) bs (indexPlace + 2 * (j + 1)) = rw (one, two, ← e) in
-    record {
-      most = omega arith;
-      all = simp length-set (w .all);
-      comes =
-          rw (add-one j, take-suc-set index j v (omega (arith, w .all)), append-assoc, ← add-one j)
-          (ap (λ (l : List ℕ). take j index ++ l) (sym next) ∙ w .comes);
-    }
-
-pub words-all : (bs index : List ℕ) → Words bs index subsequences → index ≡ wordsAt subsequences bs indexPlace
-unfolding wordsAt
-words-all bs index w = sym (ap (λ (l : List ℕ). l ++ []) (take-all subsequences index (omega (arith, w .all))) ∙ append-nil index) ∙ w .comes
-
-pub length-wordsAt : (k : ℕ) (bs : List ℕ) (at : ℕ) → length (wordsAt k bs at) ≡ k
-unfolding wordsAt
-length-wordsAt zero bs at = refl
-length-wordsAt (suc k) bs at = ap suc (length-wordsAt k bs (at + 2))
-
-pub wordsAt-each : (k : ℕ) (bs : List ℕ) (at i : ℕ) → i < k → getD (wordsAt k bs at) i 0 ≡ bigAt 2 bs (at + 2 * i)
-unfolding wordsAt
-wordsAt-each zero bs at i h = absurd (omega arith)
-wordsAt-each (suc k) bs at zero h = ap (bigAt 2 bs) (let q : at ≡ at + 2 * 0 = omega arith in q)
-wordsAt-each (suc k) bs at (suc i) h =
-    wordsAt-each k bs (at + 2) i (omega arith) ∙ ap (bigAt 2 bs) (let q : at + 2 + 2 * i ≡ at + 2 * suc i = omega arith in q)
+use Rattle.listing.specs.Resuming.{Last, goOn, whole, bad, bytes05, bytes06, listedLast, frameLast, lastOf, ContinuableLine, ClosingLine, Closes}
 
 -- ---- what a line says
 
@@ -103,29 +52,9 @@ unfolding line06 frameLast be
 last-06 count counts q = last-bytes count counts (frame06 q) (bytes-06 q) (lit≤ tt)
 
 pub frame-listed : (count : ℕ) (counts bs : List ℕ) → getD bs 0 0 ≡ kindListed → leastListed ≤ length bs → bigAt 2 bs numberPlace < count
-    → within (stateAt bs .index) counts ≡ true → frameLast count counts bs ≡ goOn (stateAt bs)
-unfolding frameLast listedLast
+    → within (stateAt bs) counts ≡ true → frameLast count counts bs ≡ goOn (stateAt bs)
+unfolding frameLast stateBack
 frame-listed count counts bs k l n w = simp (eq-eqb _ _ k, le-ltb (length bs) leastListed l, lt-ltb (bigAt 2 bs numberPlace) count n, w)
-
--- what is said, by the tests of the code, where its numbers are the frame's
-module _ (count : ℕ) (counts bs : List ℕ) (n : ℕ) (size : n ≡ length bs) where
-  pub listed-short : n < leastListed → bad ≡ listedLast count counts bs
-  unfolding listedLast
-  listed-short l = rw (← size, lt-ltb n leastListed l)
-
-  module _ (l : leastListed ≤ n) (q : ℕ) (number : q ≡ bigAt 2 bs numberPlace) where
-    pub listed-far : count ≤ q → bad ≡ listedLast count counts bs
-    unfolding listedLast
-    listed-far h = rw (← size, le-ltb n leastListed l, ← number, le-ltb q count h)
-
-    module _ (h : q < count) (s : State) (state : s ≡ stateAt bs) where
-      pub listed-above : within (s .index) counts ≡ false → bad ≡ listedLast count counts bs
-      unfolding listedLast
-      listed-above w = rw (← size, le-ltb n leastListed l, ← number, lt-ltb q count h, ← state, w)
-
-      pub listed-fits : within (s .index) counts ≡ true → goOn s ≡ listedLast count counts bs
-      unfolding listedLast
-      listed-fits w = rw (← size, le-ltb n leastListed l, ← number, lt-ltb q count h, ← state, w)
 
 -- and of a frame of kind k
 module _ (count : ℕ) (counts bs : List ℕ) (n : ℕ) (size : n ≡ length bs) (k : ℕ) (kind : k ≡ getD bs 0 0) where
@@ -177,18 +106,18 @@ last-near count counts n line h =
 
 -- the indexes of a frame are not above the counts, said one by one
 within-fields : (counts bs : List ℕ) → length counts ≡ subsequences
-    → ((i : ℕ) → i < subsequences → bigAt 2 bs (indexPlace + 2 * i) ≤ getD counts i 0) → within (stateAt bs .index) counts ≡ true
+    → ((i : ℕ) → i < indexCount → bigAt 2 bs (indexPlace + 2 * i) ≤ getD counts i 0) → within (stateAt bs) counts ≡ true
 unfolding stateAt
 within-fields counts bs e h =
-    within-all _ counts (length-wordsAt subsequences bs indexPlace ∙ sym e)
-    (λ i. by-test (ltb i subsequences)
-    (λ t. let l = ltb-true i subsequences t in rw (wordsAt-each subsequences bs indexPlace i l) (h i l))
-    (λ t. rw (List·getD-eq-default (wordsAt subsequences bs indexPlace) 0 {n = i} (rw (length-wordsAt subsequences bs indexPlace) (ltb-false i subsequences t))) (omega arith)))
+    within-all _ counts (length-wordsAt indexCount bs indexPlace ∙ sym e)
+    (λ i. by-test (ltb i indexCount)
+    (λ t. let l = ltb-true i indexCount t in rw (wordsAt-each indexCount bs indexPlace i l) (h i l))
+    (λ t. rw (List·getD-eq-default (wordsAt indexCount bs indexPlace) 0 {n = i} (rw (length-wordsAt indexCount bs indexPlace) (ltb-false i indexCount t))) (omega arith)))
 
-fields-within : (counts bs : List ℕ) → within (stateAt bs .index) counts ≡ true
-    → (i : ℕ) → i < subsequences → bigAt 2 bs (indexPlace + 2 * i) ≤ getD counts i 0
+fields-within : (counts bs : List ℕ) → within (stateAt bs) counts ≡ true
+    → (i : ℕ) → i < indexCount → bigAt 2 bs (indexPlace + 2 * i) ≤ getD counts i 0
 unfolding stateAt
-fields-within counts bs e i h = rw (← wordsAt-each subsequences bs indexPlace i h) (within-each _ counts e i)
+fields-within counts bs e i h = rw (← wordsAt-each indexCount bs indexPlace i h) (within-each _ counts e i)
 
 -- a line, sorted by what it says
 pub data Sorted (count : ℕ) (counts line : List ℕ) : Last → Type 0 where
@@ -218,7 +147,7 @@ module _ (count : ℕ) (counts line : List ℕ) (all : length counts ≡ subsequ
     not-long k b h w = h (sym (size b (w .digits)))
 
     sorted-listed : getD (unhex line) 0 0 ≡ kindListed → Sorted count counts line (listedLast count counts (unhex line))
-    unfolding listedLast
+    unfolding stateBack
     sorted-listed k =
         let five = not-closed kindRefused bytes05 (λ q. omega arith) in
         let six = not-closed kindDone bytes06 (λ q. omega arith) in
@@ -227,7 +156,7 @@ module _ (count : ℕ) (counts line : List ℕ) (all : length counts ≡ subsequ
         (λ t. rw t
         (by-test (ltb (bigAt 2 (unhex line) numberPlace) count)
         (λ u. rw u
-        (by-test (within (stateAt (unhex line) .index) counts)
+        (by-test (within (stateAt (unhex line)) counts)
         (λ v. rw v
         (listed (record {
           bytes = n;

@@ -1,5 +1,4 @@
 pub mod LinesLaws
-pub mod WordLaws
 pub mod LastLaws
 pub mod ListingLaws
 pub mod EndLaws

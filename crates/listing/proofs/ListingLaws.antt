@@ -6,26 +6,28 @@ use native.Mathlib.Omega.{arith}
 use mathlib.Core.Path.{_≡_, refl, sym, ap, _∙_}
 use mathlib.Core.Logic.{inl, inr}
 use mathlib.Core.List.{List, [], _∷_, _++_, append-assoc}
-use lib.Dec.{leb, lit<, lit≤}
+use lib.Dec.{leb, lit≤}
 use lib.ListN.{length, getD}
 use lib.Seq.{take-nil, take-append-le, take-append-add}
 use borrow.Author.Tests.{leb-true, leb-false}
 use Rattle.refusal.specs.Numbers.{missing, noRoom, Early}
+use Rattle.refusal.proofs.RefusalLaws.{early}
 use Rattle.frame.specs.Hex.{Bytes, unhex, be}
 use Rattle.frame.specs.Line.{lineDigits}
 use Rattle.frame.specs.declared.line.Line.the-variants.{Frame}
 use Rattle.frame.proofs.HexLaws.{by-test}
 use Rattle.frame.proofs.LineLaws.{lineOfBytes, unhex-line, line-is-frame, frame-is-line}
 use Rattle.frame.proofs.FieldLaws.{field-back}
-use Rattle.unit.specs.State.{subsequences, freshState}
-use Rattle.unit.specs.declared.State.{State}
+use Rattle.state.specs.State.{freshState, Shaped, allTaken}
+use Rattle.state.specs.declared.State.{State}
 use Rattle.unit.specs.Kinds.{kindListed, kindRefused, kindDone}
-use Rattle.listing.specs.Lines.{linesOf, joined, kept, linesWithin, sameList}
-use Rattle.unit.specs.Listed.{mostListed, listedHead, words, Step, refused, accepted}
+use Rattle.listing.specs.Lines.{linesOf, joined, kept, linesWithin}
+use Rattle.state.specs.Listed.{mostListed, listedHead, words, Step, refused, accepted}
 use Rattle.listing.specs.Record.{Setup, Accepted, FirstLine, Lawful}
 use Rattle.listing.specs.Listing.{Front, alone, unpaired, ready, frame05, line05, frame06, line06, lastLine, onStep, records, firstOf, restOf, listed, listing, LawfulFront, onAccepted, stateBehind, Each, none, one, ListingLine, Numbered, Finished}
 use Rattle.listing.specs.Resuming.{lastFrom, bytes05, bytes06, ClosingLine, Closes, torn}
-use Rattle.listing.proofs.LinesLaws.{same-true, whole-bytes, whole-frame, kept-line, lines-line, kept-zeros, kept-part}
+use Rattle.listing.proofs.LinesLaws.{whole-bytes, whole-frame, kept-line, lines-line, kept-zeros, kept-part}
+use Rattle.frame.proofs.SameLaws.{same-true}
 use Rattle.listing.proofs.LastLaws.{bytes-05, bytes-06}
 use Rattle.listing.proofs.ResumeLaws.{accepted-kind}
 
@@ -58,16 +60,16 @@ each f (one {l} h g) = one (f l h) (each f g)
 entry-last : (E : Setup) (s : State) (ls : List (List ℕ)) → Entry (lastLine E s ls)
 unfolding lastLine
 entry-last E s [] =
-    by-test (sameList (s .index) (E .counts)) (λ t. rw t (done-line (E .count))) (λ t. rw t (refused-line (E .count) missing (lit< tt, lit< tt)))
-entry-last E s (l ∷ ls) = refused-line (E .count) missing (lit< tt, lit< tt)
+    by-test (allTaken s (E .counts)) (λ t. rw t (done-line (E .count))) (λ t. rw t (refused-line (E .count) missing (early tt)))
+entry-last E s (l ∷ ls) = refused-line (E .count) missing (early tt)
 
-entries-from : {E : Setup} → Lawful E → (k : ℕ) (s : State) (ls : List (List ℕ)) → length (s .index) ≡ subsequences → Each Entry (records E k s ls)
+entries-from : {E : Setup} → Lawful E → (k : ℕ) (s : State) (ls : List (List ℕ)) → Shaped s → Each Entry (records E k s ls)
 unfolding records
 entries-from {E} w zero s ls i = one (entry-last E s ls) none
-entries-from {E} w (suc k) s [] i = one (refused-line (s .number) missing (lit< tt, lit< tt)) none
+entries-from {E} w (suc k) s [] i = one (refused-line (s .number) missing (early tt)) none
 entries-from {E} w (suc k) s (l ∷ ls) i = by (E .step s l) refl (λ u. entries-from w k u ls)
   where
-    by : (t : Step) → E .step s l ≡ t → ((u : State) → length (u .index) ≡ subsequences → Each Entry (records E k u ls)) → Each Entry (onStep (s .number) t (λ u. records E k u ls))
+    by : (t : Step) → E .step s l ≡ t → ((u : State) → Shaped u → Each Entry (records E k u ls)) → Each Entry (onStep (s .number) t (λ u. records E k u ls))
     by (refused n) t go = one (refused-line (s .number) n (w .refusal s l n i t)) none
     by (accepted frame u) t go =
         let a : Accepted E s l frame u = w .acceptance s l frame u i t in
@@ -139,7 +141,7 @@ number-05 q n = rw (unhex-05 q n) (omega arith)
 no-17 : (l : List ℕ) → Entry l → (q : ℕ) → l ≡ line05 q noRoom → ⊥
 no-17 l (unit-line w) q e = omega (arith, w .kind, ap (λ (x : List ℕ). getD (unhex x) 0 0) e, kind-05 q noRoom)
 no-17 l (listed-line bs b k m) q e = omega (arith, k, ap (λ (x : List ℕ). getD x 0 0) (sym (unhex-line bs b) ∙ ap unhex e), kind-05 q noRoom)
-no-17 l (refused-line r n h) q e = omega (arith, h .1, number-05 r n, number-05 q noRoom, ap (λ (x : List ℕ). getD (unhex x) 3 0) e)
+no-17 l (refused-line r n h) q e = h .1 (omega (arith, h .0 .1, number-05 r n, number-05 q noRoom, ap (λ (x : List ℕ). getD (unhex x) 3 0) e))
 no-17 l (done-line r) q e = omega (arith, closing-06 r .kind, kind-05 q noRoom, ap (λ (x : List ℕ). getD (unhex x) 0 0) e)
 
 pub listing-17 : (F : Front) → LawfulFront F → Each (λ l. (q : ℕ) → l ≡ line05 q noRoom → ⊥) (listed F)
@@ -160,14 +162,14 @@ accepted-number {E} w {s} {l} {frame} {u} a =
     }
 
 -- every line but the last is a record's, and its place is its number
-numbered-from : {E : Setup} → Lawful E → (k : ℕ) (s : State) (ls : List (List ℕ)) → length (s .index) ≡ subsequences → (i : ℕ) → suc i < length (records E k s ls) → Numbered (s .number + i) (getD (records E k s ls) i [])
+numbered-from : {E : Setup} → Lawful E → (k : ℕ) (s : State) (ls : List (List ℕ)) → Shaped s → (i : ℕ) → suc i < length (records E k s ls) → Numbered (s .number + i) (getD (records E k s ls) i [])
 unfolding records
 numbered-from {E} w zero s ls x i h = absurd (omega arith)
 numbered-from {E} w (suc k) s [] x i h = absurd (omega arith)
 numbered-from {E} w (suc k) s (l ∷ ls) x i h = by (E .step s l) refl i h (λ u. numbered-from w k u ls)
   where
     by : (t : Step) → E .step s l ≡ t → (i : ℕ) → suc i < length (onStep (s .number) t (λ u. records E k u ls))
-        → ((u : State) → length (u .index) ≡ subsequences → (i : ℕ) → suc i < length (records E k u ls) → Numbered (u .number + i) (getD (records E k u ls) i []))
+        → ((u : State) → Shaped u → (i : ℕ) → suc i < length (records E k u ls) → Numbered (u .number + i) (getD (records E k u ls) i []))
         → Numbered (s .number + i) (getD (onStep (s .number) t (λ u. records E k u ls)) i [])
     by (refused n) t i h go = absurd (omega arith)
     by (accepted frame u) t zero h go = rw (add-zero (s .number)) (accepted-number w (w .acceptance s l frame u x t))
@@ -187,7 +189,7 @@ listing-numbered (ready E) w i h = rw zero-add at (numbered-from w (E .count) fr
 closes-last : (E : Setup) (s : State) (ls : List (List ℕ)) → Closes (lastLine E s ls)
 unfolding lastLine
 closes-last E s [] =
-    by-test (sameList (s .index) (E .counts)) (λ t. rw t (inr (closing-06 (E .count)))) (λ t. rw t (inl (closing-05 (E .count) missing)))
+    by-test (allTaken s (E .counts)) (λ t. rw t (inr (closing-06 (E .count)))) (λ t. rw t (inl (closing-05 (E .count) missing)))
 closes-last E s (l ∷ ls) = inl (closing-05 (E .count) missing)
 
 closes-from : (E : Setup) (k : ℕ) (s : State) (ls : List (List ℕ)) (z : List ℕ) → Closes (lastFrom z (records E k s ls))
@@ -214,10 +216,10 @@ not-06 q n r e = absurd (omega (arith, closing-05 q n .kind, closing-06 r .kind,
 finished-last : (E : Setup) (s : State) (ls : List (List ℕ)) (q : ℕ) → s .number ≡ E .count → lastLine E s ls ≡ line06 q → Finished E s
 unfolding lastLine
 finished-last E s [] q n e =
-    by-test (sameList (s .index) (E .counts)) (λ t. record { number = n; symbols = same-true _ _ t }) (λ t. not-06 (E .count) missing q (rw t at e))
+    by-test (allTaken s (E .counts)) (λ t. record { number = n; symbols = same-true _ _ t }) (λ t. not-06 (E .count) missing q (rw t at e))
 finished-last E s (l ∷ ls) q n e = not-06 (E .count) missing q e
 
-finished-from : {E : Setup} → Lawful E → (k : ℕ) (s : State) (ls : List (List ℕ)) (z : List ℕ) (q : ℕ) → length (s .index) ≡ subsequences → s .number + k ≡ E .count
+finished-from : {E : Setup} → Lawful E → (k : ℕ) (s : State) (ls : List (List ℕ)) (z : List ℕ) (q : ℕ) → Shaped s → s .number + k ≡ E .count
     → lastFrom z (records E k s ls) ≡ line06 q → Finished E (stateBehind E k s ls)
 unfolding records lastFrom stateBehind
 finished-from {E} w zero s ls z q x n e = finished-last E s ls q (omega arith) e
@@ -225,7 +227,7 @@ finished-from {E} w (suc k) s [] z q x n e = not-06 (s .number) missing q e
 finished-from {E} w (suc k) s (l ∷ ls) z q x n e = by (E .step s l) refl e (λ u. finished-from w k u ls)
   where
     by : (t : Step) → E .step s l ≡ t → lastFrom z (onStep (s .number) t (λ u. records E k u ls)) ≡ line06 q
-        → ((u : State) (y : List ℕ) (r : ℕ) → length (u .index) ≡ subsequences → u .number + k ≡ E .count → lastFrom y (records E k u ls) ≡ line06 r → Finished E (stateBehind E k u ls))
+        → ((u : State) (y : List ℕ) (r : ℕ) → Shaped u → u .number + k ≡ E .count → lastFrom y (records E k u ls) ≡ line06 r → Finished E (stateBehind E k u ls))
         → Finished E (onAccepted s t (λ u. stateBehind E k u ls))
     by (refused m) t e go = not-06 (s .number) m q e
     by (accepted frame u) t e go =

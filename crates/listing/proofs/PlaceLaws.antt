@@ -13,18 +13,21 @@ use Rattle.refusal.specs.Numbers.{missing, otherFirst, otherLast}
 use Rattle.frame.specs.Hex.{unhex}
 use Rattle.frame.specs.Field.{bigAt}
 use Rattle.frame.proofs.HexLaws.{by-test}
-use Rattle.unit.specs.State.{subsequences}
-use Rattle.unit.specs.declared.State.{State}
+use Rattle.unit.specs.Pairs.{subsequences}
+use Rattle.state.specs.declared.State.{State}
 use Rattle.unit.specs.Kinds.{kindUnit, kindRefused, kindDone}
-use Rattle.listing.specs.Lines.{joined, sameList}
-use Rattle.unit.specs.Listed.{mostListed, numberPlace, indexPlace}
+use Rattle.listing.specs.Lines.{joined}
+use Rattle.frame.specs.Same.{sameList}
+use Rattle.state.specs.Listed.{mostListed, numberPlace, indexPlace, stateAt}
 use Rattle.listing.specs.Record.{Setup, Lawful}
 use Rattle.listing.specs.Listing.{Front, alone, unpaired, ready, line05, firstOf, restOf, listing, LawfulFront}
-use Rattle.listing.specs.Resuming.{Last, whole, bytes05, bytes06, stateAt, lastOf, nothing, edges, edgesFrom, onLast, placeBy, countOf, countsOf, place, ContinuableLine, ClosingLine, Continues, isFirst, isListed, isRefused, isDone, add, refuse, skip, onSkip, suppliedFrom, added, supply}
-use Rattle.listing.proofs.LinesLaws.{same-refl, same-true, same-false, same-not, same-near}
+use Rattle.listing.specs.Resuming.{Last, whole, bytes05, bytes06, lastOf, nothing, edges, edgesFrom, onLast, placeBy, countOf, countsOf, place, ContinuableLine, ClosingLine, Continues, isFirst, isListed, isRefused, isDone, add, refuse, skip, onSkip, suppliedFrom, added, supply}
+use Rattle.frame.proofs.SameLaws.{same-refl, same-true, same-false, same-not, same-near}
 use Rattle.listing.specs.Turn.{run}
 use Rattle.listing.proofs.TurnLaws.{run-records}
-use Rattle.listing.proofs.LastLaws.{length-wordsAt, Sorted, listed, closed05, closed06, other, sorted, listed-believed, said-closes, last-near}
+use Rattle.listing.proofs.LastLaws.{Sorted, listed, closed05, closed06, other, sorted, listed-believed, said-closes, last-near}
+use Rattle.state.proofs.HeadLaws.{length-wordsAt}
+use Rattle.state.specs.State.{indexCount}
 
 -- there is a symbol count for each subsequence
 counts-long : (F : Front) → LawfulFront F → length (countsOf F) ≡ subsequences
@@ -145,7 +148,7 @@ pub goes-on : (E : Setup) → Lawful E → (z : List ℕ) → ContinuableLine (E
 unfolding stateAt
 goes-on E w z v ls e =
     believed E w z v
-    ∙ rw e (ap add (sym (run-records w (E .count - (bigAt 2 (unhex z) numberPlace + 1)) (stateAt (unhex z)) ls (length-wordsAt subsequences (unhex z) indexPlace) (omega (arith, v .in-count)))))
+    ∙ rw e (ap add (sym (run-records w (E .count - (bigAt 2 (unhex z) numberPlace + 1)) (stateAt (unhex z)) ls (length-wordsAt indexCount (unhex z) indexPlace) (omega (arith, v .in-count)))))
 
 -- where the record lines up to its number run out
 pub run-out : (E : Setup) → Lawful E → (z : List ℕ) → ContinuableLine (E .count) (E .counts) z → skip (bigAt 2 (unhex z) numberPlace + 1) (E .lines) ≡ none

@@ -15,17 +15,19 @@ use Rattle.frame.specs.Line.{lineDigits}
 use Rattle.frame.specs.Field.{bigAt}
 use Rattle.frame.proofs.HexLaws.{by-test}
 use Rattle.frame.proofs.LineLaws.{lineOfBytes, unhex-line, line-is-frame}
-use Rattle.unit.specs.State.{subsequences, freshState}
-use Rattle.unit.specs.declared.State.{State}
+use Rattle.state.specs.State.{freshState, Shaped, allTaken}
+use Rattle.state.specs.declared.State.{State}
 use Rattle.unit.specs.Kinds.{kindUnit, kindListed}
-use Rattle.listing.specs.Lines.{linesOf, joined, ends, kept, WholeLine, sameList}
-use Rattle.unit.specs.Listed.{listedHead, Step, refused, accepted, numberPlace}
+use Rattle.listing.specs.Lines.{linesOf, joined, ends, kept, WholeLine}
+use Rattle.frame.specs.Same.{sameList}
+use Rattle.state.specs.Listed.{listedHead, Step, refused, accepted, numberPlace, stateAt}
 use Rattle.listing.specs.Record.{Setup, Accepted, FirstLine, Lawful}
 use Rattle.listing.specs.Listing.{Front, alone, unpaired, ready, frame05, line05, frame06, line06, lastLine, onStep, records, firstOf, restOf, listing, LawfulFront}
-use Rattle.listing.specs.Resuming.{goOn, stateAt, lastOf, lastFrom, edgesOf, second, onLast, countOf, countsOf, place, Supplied, add, skip, suppliedFrom, added, supply, supplied, resumed, torn, resumedAgain}
-use Rattle.listing.proofs.LinesLaws.{same-refl, same-false, whole-bytes, whole-frame, whole-ends, lines-line, kept-zeros, Cut, inside, beyond, kept-cut}
-use Rattle.listing.proofs.WordLaws.{state-head}
-use Rattle.unit.proofs.StateLaws.{within-all}
+use Rattle.listing.specs.Resuming.{goOn, lastOf, lastFrom, edgesOf, second, onLast, countOf, countsOf, place, Supplied, add, skip, suppliedFrom, added, supply, supplied, resumed, torn, resumedAgain}
+use Rattle.listing.proofs.LinesLaws.{whole-bytes, whole-frame, whole-ends, lines-line, kept-zeros, Cut, inside, beyond, kept-cut}
+use Rattle.frame.proofs.SameLaws.{same-refl, same-false}
+use Rattle.state.proofs.HeadLaws.{state-head}
+use Rattle.state.proofs.StateLaws.{within-all}
 use Rattle.listing.proofs.LastLaws.{last-bytes, bytes-05, bytes-06, last-05, last-06, frame-listed}
 
 -- ---- the first line
@@ -121,19 +123,19 @@ module _ {E : Setup} (w : Lawful E) where
   good-last : (s : State) (ls : List (List ℕ)) → Good (ready E) (lastLine E s ls ∷ [])
   unfolding lastLine firstOf
   good-last s [] =
-      by-test (sameList (s .index) (E .counts))
+      by-test (allTaken s (E .counts))
       (λ t. rw t (good-06 (E .first) refl (w .unit) (E .count)))
       (λ t. rw t (good-05 (E .first) refl (w .unit) (E .count) missing))
   good-last s (l ∷ ls) = good-05 (E .first) refl (w .unit) (E .count) missing
 
   -- the listing from a state on, where the record lines up to the state's number have been passed over
-  good : (k : ℕ) (s : State) (ls : List (List ℕ)) → length (s .index) ≡ subsequences → s .number + k ≡ E .count → skip (s .number) (E .lines) ≡ some ls → Good (ready E) (records E k s ls)
+  good : (k : ℕ) (s : State) (ls : List (List ℕ)) → Shaped s → s .number + k ≡ E .count → skip (s .number) (E .lines) ≡ some ls → Good (ready E) (records E k s ls)
   unfolding records firstOf added countOf countsOf suppliedFrom
   good zero s ls i e h = good-last s ls
   good (suc k) s [] i e h = good-05 (E .first) refl (w .unit) (s .number) missing
   good (suc k) s (l ∷ ls) i e h = by (E .step s l) refl (λ t. good k t ls)
     where
-      by : (t : Step) → E .step s l ≡ t → ((u : State) → length (u .index) ≡ subsequences → u .number + k ≡ E .count → skip (u .number) (E .lines) ≡ some ls → Good (ready E) (records E k u ls))
+      by : (t : Step) → E .step s l ≡ t → ((u : State) → Shaped u → u .number + k ≡ E .count → skip (u .number) (E .lines) ≡ some ls → Good (ready E) (records E k u ls))
           → Good (ready E) (onStep (s .number) t (λ u. records E k u ls))
       by (refused n) t go = good-05 (E .first) refl (w .unit) (s .number) n
       by (accepted frame u) t go =

@@ -9,34 +9,37 @@ use lib.Dec.{ltb, lit≤}
 use lib.ListN.{length, getD, replicate, length-append}
 use borrow.Author.Tests.{ltb-true}
 use Rattle.refusal.specs.Numbers.{malformed, missing, otherFirst, otherLast, Early}
+use Rattle.refusal.proofs.RefusalLaws.{early}
 use Rattle.frame.specs.Hex.{isDigit, glyph, nib, hexOf, unhex, allDigits, Bytes, be}
 use Rattle.frame.specs.Line.{lineWithin, lineOf}
 use Rattle.frame.specs.Field.{bigAt}
 use Rattle.frame.specs.declared.line.Line.{Line}
 use Rattle.frame.specs.declared.line.Line.the-variants.{Frame, Malformed}
 use Rattle.frame.proofs.LineLaws.{lineOfBytes}
-use Rattle.unit.specs.State.{subsequences, within}
-use Rattle.unit.specs.declared.State.{State}
+use Rattle.unit.specs.Pairs.{subsequences}
+use Rattle.state.specs.State.{freshState, after, noneAbove}
+use Rattle.state.specs.declared.State.{State}
 use Rattle.unit.specs.Kinds.{kindUnit}
-use Rattle.listing.specs.Lines.{pushByte, linesOf, joined, ends, keptWith, kept, sameList}
-use Rattle.unit.specs.Listed.{Step, refused, accepted, words, listedHead}
+use Rattle.listing.specs.Lines.{pushByte, linesOf, joined, ends, keptWith, kept}
+use Rattle.frame.specs.Same.{sameList}
+use Rattle.state.specs.Listed.{Step, refused, accepted, words, listedHead, wordsAt, stateAt, stateBack, linkFields, leastListed}
 use Rattle.listing.specs.Record.{Setup, Accepted, FirstLine, Lawful}
 use Rattle.listing.proofs.ResumeLaws.{first-line}
-use Rattle.unit.proofs.ListedLaws.{bytes-head, length-head}
+use Rattle.state.proofs.ListedLaws.{bytes-head, length-head}
 use Rattle.frame.proofs.HexLaws.{bytes-append}
 use Rattle.listing.specs.Listing.{Front, ready, line05, lastLine, records, firstOf, restOf, listing}
-use Rattle.listing.specs.Resuming.{wordsAt, stateAt, listedLast, frameLast, lastOf, lastFrom, edgesOf, countOf, countsOf, place, Supplied, add, refuse, skip, suppliedFrom, added, supply, supplied, torn}
+use Rattle.listing.specs.Resuming.{frameLast, lastOf, lastFrom, edgesOf, countOf, countsOf, place, Supplied, add, refuse, skip, suppliedFrom, added, supply, supplied, torn}
 
 -- two records, no pair symbols; every well-formed line is accepted
 abbrev toyCount : ℕ
 toyCount = 2
 
 abbrev toyNext : State → State
-toyNext s = record { number = s .number + 1; index = replicate subsequences 0 }
+toyNext s = after s freshState
 
--- nine bytes behind the head: the fewest that an 04 line can have
+-- so many bytes behind the head as the fewest that an 04 line can have
 abbrev toyFrame : State → List ℕ
-toyFrame s = listedHead (s .number) (toyNext s) ++ replicate 9 1
+toyFrame s = listedHead (s .number) (toyNext s) ++ replicate linkFields 1
 
 abbrev onToy : State → Line → Step
 onToy s (Frame n) = accepted (toyFrame s) (toyNext s)
@@ -56,19 +59,19 @@ zeros zero i = refl
 zeros (suc n) zero = refl
 zeros (suc n) (suc i) = zeros n i
 
-ones : Bytes (replicate 9 1)
+ones : Bytes (replicate linkFields 1)
 unfolding Bytes
 ones = omega arith
 
 toy-accepted : (ls : List (List ℕ)) (s : State) (l : List ℕ) (m : ℕ) → s .number < toyCount → lineOf l ≡ Frame m → Accepted (toy ls) s l (toyFrame s) (toyNext s)
 toy-accepted ls s l m h e =
-    let long : length (toyFrame s) ≡ 28 = omega (arith, length-append (listedHead (s .number) (toyNext s)) (replicate 9 1), length-head (s .number) (toyNext s)) in
+    let long : length (toyFrame s) ≡ leastListed = omega (arith, length-append (listedHead (s .number) (toyNext s)) (replicate linkFields 1), length-head (s .number) (toyNext s) refl) in
     record {
       size = m;
       well-formed = e;
-      tail = replicate 9 1;
+      tail = replicate linkFields 1;
       head = refl;
-      bytes = bytes-append (listedHead (s .number) (toyNext s)) (replicate 9 1) (bytes-head (s .number) (toyNext s)) ones;
+      bytes = bytes-append (listedHead (s .number) (toyNext s)) (replicate linkFields 1) (bytes-head (s .number) (toyNext s)) ones;
       least = omega arith;
       most = omega arith;
       in-count = h;
@@ -94,8 +97,8 @@ toy-lawful ls =
   where
     wrong : (s : State) (l : List ℕ) (n : ℕ) (t : Bool) (u : Line) → cond t (onToy s u) (refused missing) ≡ refused n → Early n
     wrong s l n true (Frame m) e = let z : _≡_ {A = ℕ} 0 1 = cc in absurd (omega arith)
-    wrong s l n true Malformed e = let z : n ≡ malformed = cc in (omega arith, omega arith)
-    wrong s l n false u e = let z : n ≡ missing = cc in (omega arith, omega arith)
+    wrong s l n true Malformed e = let z : n ≡ malformed = cc in rw z (early tt)
+    wrong s l n false u e = let z : n ≡ missing = cc in rw z (early tt)
 
     right : (s : State) (l frame : List ℕ) (next : State) (t : Bool) → ltb (s .number) toyCount ≡ t → (u : Line) → lineOf l ≡ u
         → cond t (onToy s u) (refused missing) ≡ accepted frame next → Accepted (toy ls) s l frame next
@@ -126,7 +129,7 @@ answers (f ∷ fs) = supplied sample f ∷ answers fs
 
 -- stopped inside the first record's line, and behind it, with three zero bytes; with another unit line; with a record that the unit has not;
 -- with a false line of the second record: it is believed, and its record line has no 0A, so the lines run out
-samples : answers (torn 30 3 (listing sample) ∷ torn 64 3 (listing sample) ∷ (lineOfBytes (kindUnit ∷ 4 ∷ []) ++ toyLine 0) ∷ (toyUnit ++ toyLine 2) ∷ (toyUnit ++ toyLine 1) ∷ [])
+samples : answers (torn 30 3 (listing sample) ∷ torn (length (toyUnit ++ toyLine 0) + 2) 3 (listing sample) ∷ (lineOfBytes (kindUnit ∷ 4 ∷ []) ++ toyLine 0) ∷ (toyUnit ++ toyLine 2) ∷ (toyUnit ++ toyLine 1) ∷ [])
     ≡ add (joined (toyLine 0 ∷ line05 1 malformed ∷ [])) ∷ add (joined (line05 1 malformed ∷ [])) ∷ refuse otherFirst ∷ refuse otherLast ∷ add (joined (line05 2 missing ∷ [])) ∷ []
-unfolding listing joined firstOf restOf records lastLine linesOf pushByte line05 lineWithin allDigits isDigit kept keptWith listedHead words be hexOf unhex glyph nib bigAt supply place added suppliedFrom skip edgesOf lastFrom countOf countsOf lastOf frameLast listedLast stateAt wordsAt within sameList ends
+unfolding listing joined firstOf restOf records lastLine linesOf pushByte line05 lineWithin allDigits isDigit kept keptWith listedHead words be hexOf unhex glyph nib bigAt supply place added suppliedFrom skip edgesOf lastFrom countOf countsOf lastOf frameLast stateBack stateAt wordsAt noneAbove sameList ends
 samples = refl

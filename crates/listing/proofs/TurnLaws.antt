@@ -7,24 +7,24 @@ use mathlib.Core.List.{List, [], _∷_, _++_, append-nil}
 use lib.ListN.{length}
 use borrow.Author.Tests.{lt-ltb, le-ltb}
 use Rattle.frame.proofs.LineLaws.{lineOfBytes}
-use Rattle.unit.specs.State.{subsequences, freshState}
-use Rattle.unit.specs.declared.State.{State}
+use Rattle.state.specs.State.{freshState, Shaped}
+use Rattle.state.specs.declared.State.{State}
 use Rattle.listing.specs.Lines.{joined}
-use Rattle.unit.specs.Listed.{Step, refused, accepted}
+use Rattle.state.specs.Listed.{Step, refused, accepted}
 use Rattle.listing.specs.Record.{Setup, Accepted, Lawful}
 use Rattle.listing.specs.Listing.{ready, line05, lastLine, onStep, records, restOf}
 use Rattle.listing.specs.Turn.{turn, stepTurn, onTurn, runBy, run}
 
 module _ {E : Setup} (w : Lawful E) where
   -- k records are left: k + 1 turns
-  pub run-records : (k : ℕ) (s : State) (ls : List (List ℕ)) → length (s .index) ≡ subsequences → s .number + k ≡ E .count → run E (suc k) s ls ≡ joined (records E k s ls)
+  pub run-records : (k : ℕ) (s : State) (ls : List (List ℕ)) → Shaped s → s .number + k ≡ E .count → run E (suc k) s ls ≡ joined (records E k s ls)
   unfolding runBy turn records joined lastLine
   run-records zero s [] i e = rw (le-ltb (s .number) (E .count) (omega arith), append-nil)
   run-records zero s (l ∷ ls) i e = rw (le-ltb (s .number) (E .count) (omega arith), append-nil)
   run-records (suc k) s [] i e = rw (lt-ltb (s .number) (E .count) (omega arith), append-nil)
   run-records (suc k) s (l ∷ ls) i e = rw (lt-ltb (s .number) (E .count) (omega arith)) (by (E .step s l) refl (λ u. run-records k u ls))
     where
-      by : (t : Step) → E .step s l ≡ t → ((u : State) → length (u .index) ≡ subsequences → u .number + k ≡ E .count → run E (suc k) u ls ≡ joined (records E k u ls))
+      by : (t : Step) → E .step s l ≡ t → ((u : State) → Shaped u → u .number + k ≡ E .count → run E (suc k) u ls ≡ joined (records E k u ls))
           → onTurn (stepTurn (s .number) t) (λ u. run E (suc k) u ls) ≡ joined (onStep (s .number) t (λ u. records E k u ls))
       by (refused n) t go = sym (append-nil (line05 (s .number) n))
       by (accepted frame u) t go =

@@ -3,7 +3,7 @@
 use Prim.Native.Nat.{ℕ, zero, suc}
 use mathlib.Core.List.{List, [], _∷_}
 use Rattle.refusal.specs.Numbers.{missing}
-use Rattle.unit.specs.State.{subsequences}
+use Rattle.unit.specs.Pairs.{subsequences}
 use Rattle.listing.specs.Lines.{linesOf}
 use Rattle.listing.specs.Record.{Setup}
 use Rattle.listing.specs.Listing.{Front, alone, unpaired, ready}

@@ -2,7 +2,7 @@
 -- Assumes nothing.
 use Prim.Native.Nat.{ℕ, _-_}
 use mathlib.Core.Path.{_≡_}
-use mathlib.Core.Bool.{Bool, true, false, cond}
+use mathlib.Core.Bool.{Bool, false, cond}
 use mathlib.Core.List.{List, [], _∷_, _++_}
 use lib.Dec.{eqb, leb}
 use lib.ListN.{length}
@@ -48,10 +48,3 @@ linesWithin n (l ∷ ls) = cond (leb (length l) n) (l ∷ linesWithin (n - lengt
 pub data WholeLine : List ℕ → Type 0 where
   end : WholeLine (lineEnd ∷ [])
   more : {x : ℕ} {l : List ℕ} → eqb x 0 ≡ false → eqb x lineEnd ≡ false → WholeLine l → WholeLine (x ∷ l)
-
--- two lines, or two lists of numbers, are the same
-unfoldable pub sameList : List ℕ → List ℕ → Bool
-sameList [] [] = true
-sameList [] (y ∷ ys) = false
-sameList (x ∷ xs) [] = false
-sameList (x ∷ xs) (y ∷ ys) = cond (eqb x y) (sameList xs ys) false

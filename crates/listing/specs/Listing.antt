@@ -10,11 +10,11 @@ use Rattle.frame.specs.Hex.{unhex, be}
 use Rattle.frame.specs.Line.{lineWithin, lineOfBytes}
 use Rattle.frame.specs.Field.{bigAt}
 use Rattle.frame.specs.declared.line.Line.the-variants.{Frame}
-use Rattle.unit.specs.State.{freshState}
-use Rattle.unit.specs.declared.State.{State}
+use Rattle.state.specs.State.{freshState, allTaken}
+use Rattle.state.specs.declared.State.{State}
 use Rattle.unit.specs.Kinds.{kindListed, kindRefused, kindDone}
-use Rattle.listing.specs.Lines.{joined, WholeLine, sameList}
-use Rattle.unit.specs.Listed.{mostListed, numberPlace, Step, refused, accepted}
+use Rattle.listing.specs.Lines.{joined, WholeLine}
+use Rattle.state.specs.Listed.{mostListed, numberPlace, Step, refused, accepted}
 use Rattle.listing.specs.Record.{Setup, FirstLine, Lawful}
 
 -- how far the front of the two files can be read
@@ -43,7 +43,7 @@ line06 count = lineOfBytes (frame06 count)
 
 -- the last line, where every record is accepted: bytes behind the last record line, or pair symbols left over, are refused by 14
 unfoldable pub lastLine : Setup → State → List (List ℕ) → List ℕ
-lastLine E s [] = cond (sameList (s .index) (E .counts)) (line06 (E .count)) (line05 (E .count) missing)
+lastLine E s [] = cond (allTaken s (E .counts)) (line06 (E .count)) (line05 (E .count) missing)
 lastLine E s (l ∷ ls) = line05 (E .count) missing
 
 -- an accepted record's 04 line and the lines behind it; or, at the first refusal, the 05 line and nothing after it

@@ -9,10 +9,11 @@ use Rattle.frame.specs.Hex.{Bytes, unhex}
 use Rattle.frame.specs.Line.{lineOf}
 use Rattle.frame.specs.declared.line.Line.the-variants.{Frame}
 use Rattle.unit.specs.Unit.{mostRecords}
-use Rattle.unit.specs.State.{subsequences, mostSymbols}
-use Rattle.unit.specs.declared.State.{State}
+use Rattle.unit.specs.Pairs.{subsequences, mostSymbols}
+use Rattle.state.specs.declared.State.{State}
 use Rattle.unit.specs.Kinds.{kindUnit}
-use Rattle.unit.specs.Listed.{mostListed, leastListed, listedHead, Step, refused, accepted}
+use Rattle.state.specs.Listed.{mostListed, leastListed, listedHead, Step, refused, accepted}
+use Rattle.state.specs.State.{Shaped}
 
 -- a unit whose unit line, pair lines and reference are all accepted
 pub record Setup : Type 0 where
@@ -37,7 +38,7 @@ pub record Accepted (E : Setup) (s : State) (line frame : List ℕ) (next : Stat
   pub most : 2 * length frame ≤ mostListed
   pub in-count : s .number < E .count
   pub number : next .number ≡ s .number + 1
-  pub indexes : length (next .index) ≡ subsequences
+  pub indexes : Shaped next
   pub in-counts : (i : ℕ) → getD (next .index) i 0 ≤ getD (E .counts) i 0
 
 -- a unit line, as far as a listing needs to know it: well formed, and of kind 01
@@ -52,6 +53,6 @@ pub record Lawful (E : Setup) : Type 0 where
   pub count-fits : E .count ≤ mostRecords
   pub counts-all : length (E .counts) ≡ subsequences
   pub counts-fit : (i : ℕ) → getD (E .counts) i 0 ≤ mostSymbols
-  pub refusal : (s : State) (line : List ℕ) (n : ℕ) → length (s .index) ≡ subsequences → E .step s line ≡ refused n → Early n
-  pub acceptance : (s : State) (line frame : List ℕ) (next : State) → length (s .index) ≡ subsequences → E .step s line ≡ accepted frame next
+  pub refusal : (s : State) (line : List ℕ) (n : ℕ) → Shaped s → E .step s line ≡ refused n → Early n
+  pub acceptance : (s : State) (line frame : List ℕ) (next : State) → Shaped s → E .step s line ≡ accepted frame next
       → Accepted E s line frame next

@@ -6,7 +6,7 @@ use mathlib.Core.Bool.{cond}
 use mathlib.Core.Logic.{_⊎_}
 use mathlib.Core.List.{List, [], _∷_, _++_}
 use mathlib.Core.Option.{Option, none, some}
-use lib.Dec.{eqb, ltb}
+use lib.Dec.{eqb}
 use lib.ListN.{length, getD, take, replicate}
 use Rattle.refusal.specs.Numbers.{missing, otherFirst, otherLast}
 use Rattle.frame.specs.Hex.{unhex}
@@ -14,11 +14,13 @@ use Rattle.frame.specs.Line.{lineWithin}
 use Rattle.frame.specs.Field.{bigAt}
 use Rattle.frame.specs.Steps.{afterLine}
 use Rattle.frame.specs.declared.line.Line.the-variants.{Frame}
-use Rattle.unit.specs.State.{subsequences, within}
-use Rattle.unit.specs.declared.State.{State}
+use Rattle.unit.specs.Pairs.{subsequences}
+use Rattle.state.specs.declared.State.{State}
+use Rattle.state.specs.State.{indexCount}
 use Rattle.unit.specs.Kinds.{kindListed, kindRefused, kindDone}
-use Rattle.listing.specs.Lines.{linesOf, joined, ends, kept, sameList}
-use Rattle.unit.specs.Listed.{mostListed, leastListed, numberPlace, indexPlace}
+use Rattle.listing.specs.Lines.{linesOf, joined, ends, kept}
+use Rattle.frame.specs.Same.{sameList}
+use Rattle.state.specs.Listed.{mostListed, leastListed, numberPlace, indexPlace, stateBack}
 use Rattle.listing.specs.Record.{Setup}
 use Rattle.listing.specs.Listing.{Front, alone, unpaired, ready, line05, records, firstOf, restOf, listing}
 
@@ -38,22 +40,13 @@ bytes05 = 4
 abbrev pub bytes06 : ℕ
 bytes06 = 3
 
--- k u16 of a frame, from byte `at` on
-unfoldable pub wordsAt : ℕ → List ℕ → ℕ → List ℕ
-wordsAt zero bs at = []
-wordsAt (suc k) bs at = bigAt 2 bs at ∷ wordsAt k bs (at + 2)
+-- what an 04 line says, by the state behind its record
+abbrev pub lastBy : Option State → Last
+lastBy none = bad
+lastBy (some s) = goOn s
 
--- the state behind the record of an 04 line: the next record's number, and the indexes after this one
-unfoldable pub stateAt : List ℕ → State
-stateAt bs = record { number = bigAt 2 bs numberPlace + 1; index = wordsAt subsequences bs indexPlace }
-
--- "an 04 line of at least 28 bytes with a number below the record count and indexes not above the symbol counts"
-unfoldable pub listedLast : ℕ → List ℕ → List ℕ → Last
-listedLast count counts bs =
-    cond (ltb (length bs) leastListed) bad
-    (cond (ltb (bigAt 2 bs numberPlace) count)
-    (cond (within (stateAt bs .index) counts) (goOn (stateAt bs)) bad)
-    bad)
+abbrev pub listedLast : ℕ → List ℕ → List ℕ → Last
+listedLast count counts bs = lastBy (stateBack count counts bs)
 
 -- by the frame's kind
 unfoldable pub frameLast : ℕ → List ℕ → List ℕ → Last
@@ -134,7 +127,7 @@ pub record ContinuableLine (count : ℕ) (counts line : List ℕ) : Type 0 where
   pub kind : getD (unhex line) 0 0 ≡ kindListed
   pub least : leastListed ≤ bytes
   pub in-count : bigAt 2 (unhex line) numberPlace < count
-  pub in-counts : (i : ℕ) → i < subsequences → bigAt 2 (unhex line) (indexPlace + 2 * i) ≤ getD counts i 0
+  pub in-counts : (i : ℕ) → i < indexCount → bigAt 2 (unhex line) (indexPlace + 2 * i) ≤ getD counts i 0
 
 -- an 05 or an 06 line, of its own number of bytes
 pub record ClosingLine (kindOf bytes : ℕ) (line : List ℕ) : Type 0 where

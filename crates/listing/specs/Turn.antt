@@ -7,8 +7,8 @@ use mathlib.Core.Option.{Option, none, some}
 use lib.Dec.{ltb}
 use Rattle.refusal.specs.Numbers.{missing}
 use Rattle.frame.specs.Line.{lineOfBytes}
-use Rattle.unit.specs.declared.State.{State}
-use Rattle.unit.specs.Listed.{Step, refused, accepted}
+use Rattle.state.specs.declared.State.{State}
+use Rattle.state.specs.Listed.{Step, refused, accepted}
 use Rattle.listing.specs.Record.{Setup}
 use Rattle.listing.specs.Listing.{line05, lastLine}
 

@@ -7,7 +7,7 @@ use front::unit_line;
 use front::unit_line::UnitLine;
 use stream::source::Source;
 use stream::source::take;
-use unit::State;
+use unit::Pairs;
 use unit::Unit;
 ghost use Rattle.opening.specs.code.Front.{Grows};
 
@@ -26,7 +26,7 @@ pub enum FrontRead {
 pub struct OpenFiles {
     pub front: FrontRead,
     pub bases: usize,
-    pub counts: [u32; State::SUBSEQUENCES],
+    pub counts: [u32; Pairs::SUBSEQUENCES],
     pub source: Source,
 }
 
@@ -130,7 +130,7 @@ fn closed(front: FrontRead, source: Source) -> OpenFiles {
     OpenFiles {
         front,
         bases: 0,
-        counts: [0u32; State::SUBSEQUENCES],
+        counts: [0u32; Pairs::SUBSEQUENCES],
         source,
     }
 }
@@ -160,9 +160,9 @@ fn read_pairs(
     symbols: &mut [u32],
 ) -> OpenFiles {
     let mut source = s;
-    let mut counts = [0u32; State::SUBSEQUENCES];
+    let mut counts = [0u32; Pairs::SUBSEQUENCES];
     let mut i: usize = 0;
-    while i < State::SUBSEQUENCES {
+    while i < Pairs::SUBSEQUENCES {
         let paired = add_symbols(source, buf, symbols, i as u32);
         source = paired.source;
         if source.failed {

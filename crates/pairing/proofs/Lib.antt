@@ -1,8 +1,5 @@
 -- What the proofs of several functions use, and the laws for the crates above.
 pub mod With
-pub mod Taking
-pub mod Decoding
 pub mod Cases
-pub mod Reading
 pub mod Laws
 pub mod MateLaws

@@ -1,4 +1,2 @@
-pub mod Take
 pub mod Table60
 pub mod Pairing
-pub mod Reading

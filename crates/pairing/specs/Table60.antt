@@ -1,12 +1,13 @@
 -- Table 60 of the standard: decoding process of the pair descriptor subsequences for the first alignment in the record or class U.
 -- One definition a decoding case, in the order of the page and under its names (`same-rec` is the page's same_rec). The page's i is 1, since a template has at most two segments.
--- How to read a case: `takes N (λ value. ..)` is value = subsequenceN[j8,N], then j8,N++; `within16 value ..` is Table 30's limit, else refusal 7; `sets` is what the case assigns.
+-- How to read a case: `takes N (λ value. ..)` is value = subsequenceN[j8,N], then j8,N++; `within16 value ..` is Table 30's limit, else refusal 7; `sets` is what the case assigns (taking's Steps).
 -- The page has lost the brace that closes case 5 (R1_unpaired): read as printed, case 6 and j8,0++ would stand inside it.
 -- Assumes nothing.
 use Prim.Native.Nat.{ℕ, _+_, _-_, _/_, _%_}
 use mathlib.Core.Bool.{cond}
 use lib.Dec.{eqb}
 use Rattle.unit.specs.Unit.{classU}
+use Rattle.taking.specs.Steps.{Steps, sets, takes, within16, reserved}
 use Rattle.pairing.specs.declared.Mate.{Mate}
 use Rattle.pairing.specs.declared.Mate.the-variants.{Unpaired, Near, Far}
 
@@ -16,14 +17,6 @@ pub record Decoded : Type 0 where
   pub splitMate : ℕ
   pub read1First : ℕ
   pub mate : Mate
-
--- The steps of a case: what it sets; or a symbol that it takes from subsequence N (the page's subsequenceN at j8,N, then j8,N++) and how it goes on with the value;
--- or a value that must have at most 16 bits (Table 30) for it to go on; `reserved` where the page has no case.
-pub data Steps : Type 0 where
-  sets : Decoded → Steps
-  takes : ℕ → (ℕ → Steps) → Steps
-  within16 : ℕ → Steps → Steps
-  reserved : Steps
 
 -- if(classId != Class_U) mateSeqId and mappingPos are set, else pairingMate = -1, which is no aligned mate
 unfoldable pub mateAt : (classId sequence position : ℕ) → Mate
@@ -38,14 +31,14 @@ abbrev pub deltaOf : ℕ → ℕ
 deltaOf value = value / 2
 
 -- class HM: same_rec
-unfoldable pub HM-same-rec : Steps
+unfoldable pub HM-same-rec : Steps Decoded
 HM-same-rec =
     takes 1
     (λ value. within16 value
     (sets record { numberOfRecordSegments = 2; splitMate = 0; read1First = readFirst value; mate = Unpaired }))
 
 -- 0: same_rec. In class U the page takes a value where crps_flag is set and cr_alg_ID is 2 or 4; document 01 has no computed reference, so nothing is taken.
-unfoldable pub same-rec : (classId : ℕ) → Steps
+unfoldable pub same-rec : (classId : ℕ) → Steps Decoded
 same-rec classId =
     cond (eqb classId classU)
     (sets record { numberOfRecordSegments = 2; splitMate = 0; read1First = 1; mate = Unpaired })
@@ -54,45 +47,45 @@ same-rec classId =
     (sets record { numberOfRecordSegments = 2; splitMate = 0; read1First = readFirst value; mate = Near (deltaOf value) })))
 
 -- splitMate = 1, read1First as given; the mate's position from subsequenceN, on this sequence; in class U it is passed over
-unfoldable pub split : (classId sequence N read1First : ℕ) → Steps
+unfoldable pub split : (classId sequence N read1First : ℕ) → Steps Decoded
 split classId sequence N read1First =
     takes N
     (λ position.
     sets record { numberOfRecordSegments = 1; splitMate = 1; read1First = read1First; mate = mateAt classId sequence position })
 
 -- 1: R1_split. read1First = 0; mappingPos = subsequence2[j8,2], mateSeqId = seqId, j8,2++
-abbrev pub R1-split : (classId seqId : ℕ) → Steps
+abbrev pub R1-split : (classId seqId : ℕ) → Steps Decoded
 R1-split classId seqId = split classId seqId 2 0
 
 -- 2: R2_split. read1First = 1; mappingPos = subsequence3[j8,3], mateSeqId = seqId, j8,3++
-abbrev pub R2-split : (classId seqId : ℕ) → Steps
+abbrev pub R2-split : (classId seqId : ℕ) → Steps Decoded
 R2-split classId seqId = split classId seqId 3 1
 
 -- a different reference sequence: its id from subsequenceN, the mate's position there from subsequenceQ. In class U the value of N is no sequence id (Table 30) and has no limit.
-unfoldable pub diff-ref-seq : (classId N Q read1First : ℕ) → Steps
+unfoldable pub diff-ref-seq : (classId N Q read1First : ℕ) → Steps Decoded
 diff-ref-seq classId N Q read1First =
     takes N
     (λ id.
     cond (eqb classId classU) (split classId id Q read1First) (within16 id (split classId id Q read1First)))
 
 -- 3: R1_diff_ref_seq. read1First = 0; mateSeqId = subsequence4[j8,4], mappingPos = subsequence6[j8,6], j8,4++, j8,6++
-abbrev pub R1-diff-ref-seq : (classId : ℕ) → Steps
+abbrev pub R1-diff-ref-seq : (classId : ℕ) → Steps Decoded
 R1-diff-ref-seq classId = diff-ref-seq classId 4 6 0
 
 -- 4: R2_diff_ref_seq. read1First = 1; mateSeqId = subsequence5[j8,5], mappingPos = subsequence7[j8,7], j8,5++, j8,7++
-abbrev pub R2-diff-ref-seq : (classId : ℕ) → Steps
+abbrev pub R2-diff-ref-seq : (classId : ℕ) → Steps Decoded
 R2-diff-ref-seq classId = diff-ref-seq classId 5 7 1
 
 -- 5: R1_unpaired
-abbrev pub R1-unpaired : Steps
+abbrev pub R1-unpaired : Steps Decoded
 R1-unpaired = sets record { numberOfRecordSegments = 1; splitMate = 2; read1First = 1; mate = Unpaired }
 
 -- 6: R2_unpaired
-abbrev pub R2-unpaired : Steps
+abbrev pub R2-unpaired : Steps Decoded
 R2-unpaired = sets record { numberOfRecordSegments = 1; splitMate = 2; read1First = 0; mate = Unpaired }
 
 -- the case by the code, which is the page's subsequence0 at j8,0
-unfoldable pub table60 : (classId seqId code : ℕ) → Steps
+unfoldable pub table60 : (classId seqId code : ℕ) → Steps Decoded
 table60 classId seqId code =
     cond (eqb code 0) (same-rec classId)
     (cond (eqb code 1) (R1-split classId seqId)

@@ -1,14 +1,15 @@
 // The rows of Table 60, a function each. `back` is the state that a refusal hands back.
 ghost use mathlib.Core.Path.{_≡_};
 ghost use Rattle.pairing.specs.Table60.{HM-same-rec, same-rec, split, diff-ref-seq, table60, mateAt, readFirst};
-ghost use Rattle.pairing.specs.Pairing.{decode, linkedTo, refusedLink};
+ghost use Rattle.pairing.specs.Pairing.{linkedTo, refusedLink, paired};
+ghost use Rattle.taking.specs.Steps.{decode};
 use crate::Link;
 use crate::LinkRead;
 use crate::Mate;
-use crate::NextSymbol;
 use crate::Paired;
-use crate::take;
-use unit::State;
+use state::State;
+use taking::NextSymbol;
+use taking::take;
 use unit::Unit;
 
 // A refusal, with the state it hands back.
@@ -59,7 +60,7 @@ fn read_first(v: u32) -> u32
 
 // Class HM: one value tells which read is first.
 pub(crate) fn half_mapped(symbols: &[u32], counts: &[u32], state: State) -> Paired
-    ensures { λ r. ⌜ r ≡ decode (now (symbols .entry)) (now (counts .entry)) state state HM-same-rec ⌝ }
+    ensures { λ r. ⌜ r ≡ paired state (decode (now (symbols .entry)) (now (counts .entry)) state HM-same-rec) ⌝ }
 {
     let t = take(symbols, counts, state, 1);
     let found = t.found;
@@ -76,7 +77,7 @@ pub(crate) fn half_mapped(symbols: &[u32], counts: &[u32], state: State) -> Pair
 
 // Code 0: one value tells which read is first and how far the mate lies; in class U none is taken.
 fn same_rec(class: u32, symbols: &[u32], counts: &[u32], state: State, back: State) -> Paired
-    ensures { λ r. ⌜ r ≡ decode (now (symbols .entry)) (now (counts .entry)) back state (same-rec class) ⌝ }
+    ensures { λ r. ⌜ r ≡ paired back (decode (now (symbols .entry)) (now (counts .entry)) state (same-rec class)) ⌝ }
 {
     if class == Unit::U {
         return linked(1, 0, 2, Mate::Unpaired, state);
@@ -106,7 +107,7 @@ fn split(
     s: usize,
     first: u32,
 ) -> Paired
-    ensures { λ r. ⌜ r ≡ decode (now (symbols .entry)) (now (counts .entry)) back state (split class sequence s first) ⌝ }
+    ensures { λ r. ⌜ r ≡ paired back (decode (now (symbols .entry)) (now (counts .entry)) state (split class sequence s first)) ⌝ }
 {
     let t = take(symbols, counts, state, s);
     let found = t.found;
@@ -129,7 +130,7 @@ fn diff_ref_seq(
     q: usize,
     first: u32,
 ) -> Paired
-    ensures { λ r. ⌜ r ≡ decode (now (symbols .entry)) (now (counts .entry)) back state (diff-ref-seq class s q first) ⌝ }
+    ensures { λ r. ⌜ r ≡ paired back (decode (now (symbols .entry)) (now (counts .entry)) state (diff-ref-seq class s q first)) ⌝ }
 {
     let t = take(symbols, counts, state, s);
     let found = t.found;
@@ -156,7 +157,7 @@ pub(crate) fn by_code(
     back: State,
     code: u32,
 ) -> Paired
-    ensures { λ r. ⌜ r ≡ decode (now (symbols .entry)) (now (counts .entry)) back state (table60 class sequence code) ⌝ }
+    ensures { λ r. ⌜ r ≡ paired back (decode (now (symbols .entry)) (now (counts .entry)) state (table60 class sequence code)) ⌝ }
 {
     match code {
         0 => same_rec(class, symbols, counts, state, back),

@@ -9,9 +9,10 @@ use lib.ListN.{length, getD, drop, drop-of-length-le}
 use lib.Seq.{drop-cons}
 use borrow.Author.Tests.{lt-ltb, le-ltb, le-leb, lt-leb}
 use Rattle.refusal.specs.Numbers.{fine, missing}
-use Rattle.unit.specs.State.{mostSymbols, within}
+use Rattle.unit.specs.Pairs.{mostSymbols}
+use Rattle.state.specs.State.{within}
 use Rattle.unit.specs.declared.Unit.{Unit}
-use Rattle.unit.specs.declared.State.{State}
+use Rattle.state.specs.declared.State.{State}
 use Rattle.plan.specs.Lent.{countsOut, stateRefusal}
 
 -- ---- the counts
@@ -36,10 +37,10 @@ module _ (u : Unit) (counts : List ℕ) (state : State) where
   unfolding stateRefusal
   number-out h = rw (le-leb _ _ h)
 
-  pub index-out : state .number < u .records → within (state .index) counts ≡ false → stateRefusal u counts state ≡ missing
+  pub index-out : state .number < u .records → within state counts ≡ false → stateRefusal u counts state ≡ missing
   unfolding stateRefusal
   index-out h e = rw (lt-leb _ _ h, e)
 
-  pub state-fine : state .number < u .records → within (state .index) counts ≡ true → stateRefusal u counts state ≡ fine
+  pub state-fine : state .number < u .records → within state counts ≡ true → stateRefusal u counts state ≡ fine
   unfolding stateRefusal
   state-fine h e = rw (lt-leb _ _ h, e)

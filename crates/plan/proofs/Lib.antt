@@ -3,5 +3,6 @@ pub mod Steps
 pub mod Unique
 pub mod RefusalLaws
 pub mod StateLaws
+pub mod QuietLaws
 pub mod PlanLaws
 pub mod MateLaws

@@ -5,24 +5,23 @@ use mathlib.Core.Logic.{inl, inr}
 use mathlib.Core.List.{List}
 use Prim.Native.Nat.{ℕ, _+_, _^_, _<_, _≤_}
 use native.Mathlib.Omega.{arith}
-use borrow.Author.Tests.{lt-ltb}
 use lib.Dec.{lit<}
 use lib.ListN.{getD}
+use Rattle.limits.specs.Limits.{recordFields}
 use Rattle.frame.specs.Hex.{unhex}
 use Rattle.unit.specs.Unit.{classHM, classU, mostSegments}
 use Rattle.unit.specs.declared.Unit.{Unit as UnitOf}
-use Rattle.unit.specs.declared.State.{State}
+use Rattle.state.specs.declared.State.{State}
 use Rattle.unit.proofs.ValidLaws.{UnitValid}
 use Rattle.pairing.specs.Table60.{mappingPos}
 use Rattle.pairing.specs.declared.Mate.{Mate}
 use Rattle.pairing.specs.declared.Mate.the-variants.{Unpaired, Near, Far}
 use Rattle.pairing.proofs.Cases.{MateWithin}
 use Rattle.pairing.proofs.Laws.{link-within, link-alone}
-use Rattle.segment.proofs.PlaceLaws.{placed-inside}
+use Rattle.plan.proofs.PlanLaws.{second-inside}
 use Rattle.pairing.proofs.MateLaws.{link-together}
-use Rattle.plan.specs.Plan.{secondSegment}
 use Rattle.plan.specs.declared.read.Plan.{Plan}
-use Rattle.plan.specs.Said.{Second, alone, behind, PlanTaken}
+use Rattle.plan.specs.Said.{PlanTaken}
 
 -- ---- the mate's position
 
@@ -36,18 +35,10 @@ module _ (u : UnitOf) (reference symbols counts : List ℕ) (state : State) (lin
 
   -- a mate at a delta is the second segment, and stands inside the unit
   near-inside : UnitValid u → PlanTaken u reference symbols counts state line p moved → (delta : ℕ) → p .link .mate ≡ Near delta → p .pos + delta ≤ u .end
-  unfolding secondSegment
-  near-inside valid taken delta e = by (taken .blocks .second)
-    where
-      two : p .link .segments ≡ mostSegments
-      two = rw e at (link-together u symbols counts state (p .link) (taken .linked))
-
-      class : u .class < classHM
-      class = aligned-class valid taken (λ z. let y : _≡_ {A = ℕ} 0 1 = cc in omega arith)
-
-      by : Second u reference (unhex line) p (taken .blocks .next .at) → p .pos + delta ≤ u .end
-      by (alone few _) = absurd (omega (arith, two))
-      by (behind _ next q) = rw e at (placed-inside u reference (unhex line) _ _ (p .second) next (simp (lt-ltb _ _ class) at q) .1)
+  near-inside valid taken delta e =
+      let two : p .link .segments ≡ mostSegments = rw e at (link-together u symbols counts state (p .link) (taken .linked)) in
+      let class : u .class < classHM = aligned-class valid taken (λ z. let y : _≡_ {A = ℕ} 0 1 = cc in omega arith) in
+      rw e at (second-inside u reference (unhex line) symbols counts recordFields _ p moved (taken .blocks) (omega arith) class .1)
 
   pub mate-fits : UnitValid u → u .end < 2 ^ 32 → ((at : ℕ) → getD symbols at 0 < 2 ^ 32) → PlanTaken u reference symbols counts state line p moved → mappingPos (p .pos) (p .link .mate) < 2 ^ 32
   mate-fits valid end every taken = by (p .link .mate) refl (link-within u symbols counts state (2 ^ 32) (valid .sequence) every (p .link) (taken .linked) .mate)

@@ -11,12 +11,13 @@ use lib.ListN.{length, getD}
 use Rattle.refusal.specs.Numbers.{fine, misframed, countOut, missing}
 use Rattle.frame.proofs.HexLaws.{by-test, false-true}
 use Rattle.unit.specs.Unit.{mostReference, unitRefusal}
-use Rattle.unit.specs.State.{subsequences, mostSymbols, tableLength, within}
+use Rattle.unit.specs.Pairs.{subsequences, mostSymbols, tableLength}
+use Rattle.state.specs.State.{within}
 use Rattle.unit.specs.declared.Unit.{Unit}
-use Rattle.unit.specs.declared.State.{State}
+use Rattle.state.specs.declared.State.{State}
 use Rattle.frame.proofs.StepLaws.{past-refusal, past-match}
 use Rattle.unit.proofs.ValidLaws.{UnitValid, valid-is}
-use Rattle.unit.proofs.StateLaws.{within-each}
+use Rattle.state.proofs.StateLaws.{within-each}
 use Rattle.plan.specs.Lent.{countsOut, stateRefusal, lentRefusal}
 
 -- no count is above the limit
@@ -49,7 +50,7 @@ lent-taken u bases places counts state q =
     let c = past-match countOut (λ z. omega arith) (length counts) subsequences _ (b .1) in
     let d = past-flag (countsOut counts) countOut _ fine (λ z. omega arith) (c .1) in
     let f = past-flag (leb (u .records) (state .number)) missing _ fine (λ z. omega arith) (d .1) in
-    let g : within (state .index) counts ≡ true = by-test (within (state .index) counts) (λ w. w) (λ w. absurd (let z : missing ≡ fine = simp w at (f .1) in omega arith)) in
+    let g : within state counts ≡ true = by-test (within state counts) (λ w. w) (λ w. absurd (let z : missing ≡ fine = simp w at (f .1) in omega arith)) in
     record {
       unit = valid-is u (eqb-true _ _ t);
       reference = a .0;

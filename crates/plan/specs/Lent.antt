@@ -8,9 +8,10 @@ use lib.ListN.{length}
 use Rattle.refusal.specs.Numbers.{fine, misframed, countOut, missing}
 use Rattle.frame.specs.Steps.{unless}
 use Rattle.unit.specs.Unit.{unitRefusal, mostReference}
-use Rattle.unit.specs.State.{subsequences, mostSymbols, tableLength, within}
+use Rattle.unit.specs.Pairs.{subsequences, mostSymbols, tableLength}
+use Rattle.state.specs.State.{within}
 use Rattle.unit.specs.declared.Unit.{Unit}
-use Rattle.unit.specs.declared.State.{State}
+use Rattle.state.specs.declared.State.{State}
 
 -- a symbol count above 1,024
 unfoldable pub countsOut : (counts : List ℕ) → Bool
@@ -21,7 +22,7 @@ countsOut (n ∷ ns) = cond (ltb mostSymbols n) true (countsOut ns)
 unfoldable pub stateRefusal : Unit → (counts : List ℕ) → State → ℕ
 stateRefusal u counts state =
     cond (leb (u .records) (state .number)) missing
-    (unless (within (state .index) counts) missing fine)
+    (unless (within state counts) missing fine)
 
 -- a unit value outside its range (3), a lent reference above 32,768 (2), a symbol count above 1,024 or a table of another shape (4), the state (14)
 unfoldable pub lentRefusal : Unit → (bases places : ℕ) (counts : List ℕ) → State → ℕ

@@ -15,21 +15,23 @@ use Rattle.unit.specs.Kinds.{kindRecord}
 use Rattle.frame.specs.Steps.{unless, afterLine}
 use Rattle.unit.specs.Unit.{classHM, classU, mostSegments}
 use Rattle.unit.specs.declared.Unit.{Unit}
-use Rattle.unit.specs.declared.State.{State}
+use Rattle.state.specs.declared.State.{State}
+use Rattle.taking.specs.Steps.{Steps, sets, refuses, andThen, Came, came, stopped, decode}
+use Rattle.taking.specs.Reading.{Took, takenIn}
 use Rattle.pairing.specs.Table60.{mappingPos}
-use Rattle.pairing.specs.Pairing.{linkNumber, pairOf}
-use Rattle.pairing.specs.declared.LinkRead.{LinkRead}
-use Rattle.pairing.specs.declared.LinkRead.the-variants as pair
+use Rattle.pairing.specs.Pairing.{linkOf, pairSteps}
 use Rattle.pairing.specs.declared.Link.{Link}
-use Rattle.pairing.specs.declared.Paired.{Paired}
+use Rattle.block.specs.Head.{headAt}
 use Rattle.segment.specs.Segment.{segmentNumber, placedAt, plainAt}
-use Rattle.segment.specs.declared.Segment.{Segment}
-use Rattle.segment.specs.declared.Segment.the-variants.{Absent}
 use Rattle.segment.specs.declared.SegmentRead.{SegmentRead}
 use Rattle.segment.specs.declared.SegmentRead.the-variants as segment
+use Rattle.frame.specs.declared.field.Cursor.{Cursor}
+use Rattle.segment.specs.declared.Segment.{Segment}
+use Rattle.segment.specs.declared.Segment.the-variants.{Absent}
 use Rattle.plan.specs.declared.read.Plan.{Plan}
 use Rattle.plan.specs.declared.read.Planned.{Planned}
 use Rattle.plan.specs.declared.read.Reading.{Reading}
+use Rattle.plan.specs.declared.segments.SegmentMoved.{SegmentMoved}
 use Rattle.plan.specs.declared.read.Planned.the-variants.{Whole, Refused}
 
 -- document 01's number of an answer
@@ -46,69 +48,87 @@ abbrev pub plan : Link → (pos : ℕ) (first second : Segment) → Plan
 plan link pos first second = record { link = link; pos = pos; first = first; second = second }
 
 -- then left-over bytes (2)
-unfoldable pub nothingLeftOver : (frame : List ℕ) → Plan → (at : ℕ) → Planned
-nothingLeftOver frame p at = cond (ltb at (length frame)) (Refused misframed) (Whole p)
+unfoldable pub nothingLeftOver : (frame : List ℕ) → Plan → (at : ℕ) → Steps Plan
+nothingLeftOver frame p at = cond (ltb at (length frame)) (refuses misframed) (sets p)
+
+-- a segment, and the place behind its block
+pub record SegmentAt : Type 0 where
+  pub segment : Segment
+  pub next : Cursor
+
+-- what takes no symbol, as steps
+abbrev pub segmentSteps : SegmentRead → Steps SegmentAt
+segmentSteps (segment.Refused n) = refuses (segmentNumber (segment.Refused n))
+segmentSteps (segment.Whole p next) = sets record { segment = p; next = next }
+
+-- an aligned segment at a position: the head of its block, which takes the block's symbols, then what stands behind it
+unfoldable pub alignedSteps : Unit → (reference frame : List ℕ) (position at : ℕ) → Steps SegmentAt
+alignedSteps u reference frame position at =
+    andThen (headAt frame at) (λ head. segmentSteps (placedAt u reference frame position head))
+
+-- one that is not aligned takes no symbol
+abbrev pub plainSteps : Unit → (frame : List ℕ) (at : ℕ) → Steps SegmentAt
+plainSteps u frame at = segmentSteps (plainAt u frame at)
 
 -- in U the first block is not aligned; in every other class it is, at pos
-unfoldable pub firstSegment : Unit → (reference frame : List ℕ) (pos at : ℕ) → SegmentRead
-firstSegment u reference frame pos at = cond (eqb (u .class) classU) (plainAt u frame at) (placedAt u reference frame pos at)
+unfoldable pub firstSegment : Unit → (reference frame : List ℕ) (pos at : ℕ) → Steps SegmentAt
+firstSegment u reference frame pos at = cond (eqb (u .class) classU) (plainSteps u frame at) (alignedSteps u reference frame pos at)
 
 -- in P, N, M and I (the classes before HM) the second block is aligned too, at the mate's position; in HM and U it is not.
 -- Together: numberOfAlignedRecordSegments of 10.4.10 is 1 in HM, 0 in U, else the record's segments
-unfoldable pub secondSegment : Unit → (reference frame : List ℕ) → Link → (pos at : ℕ) → SegmentRead
+unfoldable pub secondSegment : Unit → (reference frame : List ℕ) → Link → (pos at : ℕ) → Steps SegmentAt
 secondSegment u reference frame link pos at =
-    cond (ltb (u .class) classHM) (placedAt u reference frame (mappingPos pos (link .mate)) at) (plainAt u frame at)
+    cond (ltb (u .class) classHM) (alignedSteps u reference frame (mappingPos pos (link .mate)) at) (plainSteps u frame at)
 
--- a block, and what follows from the place behind it; its refusal is the record's
-abbrev pub afterSegment : SegmentRead → (Segment → ℕ → Planned) → Planned
-afterSegment (segment.Refused n) more = Refused (segmentNumber (segment.Refused n))
-afterSegment (segment.Whole p next) more = more p (next .at)
+-- what reading a segment hands back: the segment and the state behind its symbols, or the refusal and the state as it was given
+abbrev pub segmentMoved : (back : State) → Came SegmentAt → SegmentMoved
+segmentMoved back (came s next) = record { answer = segment.Whole (s .segment) (s .next); state = next }
+segmentMoved back (stopped n) = record { answer = segment.Refused n; state = back }
 
 -- the second block, where the record has two segments; then nothing may be left over
-unfoldable pub fromSecond : Unit → (reference frame : List ℕ) → Link → (pos : ℕ) → Segment → (at : ℕ) → Planned
+unfoldable pub fromSecond : Unit → (reference frame : List ℕ) → Link → (pos : ℕ) → Segment → (at : ℕ) → Steps Plan
 fromSecond u reference frame link pos first at =
     cond (ltb (link .segments) mostSegments) (nothingLeftOver frame (plan link pos first Absent) at)
-    (afterSegment (secondSegment u reference frame link pos at) (λ second behind. nothingLeftOver frame (plan link pos first second) behind))
+    (andThen (secondSegment u reference frame link pos at) (λ s. nothingLeftOver frame (plan link pos first (s .segment)) (s .next .at)))
 
--- "one block for each segment of the record"
-unfoldable pub fromFirst : Unit → (reference frame : List ℕ) → Link → (pos at : ℕ) → Planned
+-- "one block for each segment of the record": what a block takes of the symbols is taken before the next block is read
+unfoldable pub fromFirst : Unit → (reference frame : List ℕ) → Link → (pos at : ℕ) → Steps Plan
 fromFirst u reference frame link pos at =
-    afterSegment (firstSegment u reference frame pos at) (λ first behind. fromSecond u reference frame link pos first behind)
+    andThen (firstSegment u reference frame pos at) (λ s. fromSecond u reference frame link pos (s .segment) (s .next .at))
 
 -- pos u32 (0 in class U)
-unfoldable pub fromPos : Unit → (reference frame : List ℕ) → Link → (at : ℕ) → Planned
+unfoldable pub fromPos : Unit → (reference frame : List ℕ) → Link → (at : ℕ) → Steps Plan
 fromPos u reference frame link at =
-    withField (Refused shortField) 4 frame at (λ pos behind.
+    withField (refuses shortField) 4 frame at (λ pos behind.
     cond (eqb (u .class) classU)
-    (unless (eqb pos 0) (Refused positionOut) (fromFirst u reference frame link pos behind))
+    (unless (eqb pos 0) (refuses positionOut) (fromFirst u reference frame link pos behind))
     (fromFirst u reference frame link pos behind))
+
+-- THE STEPS OF A RECORD: kind (2), then the pair symbols as they are taken, then pos and the blocks
+unfoldable pub recordSteps : Unit → (reference frame : List ℕ) → Steps Plan
+recordSteps u reference frame =
+    withField (refuses shortField) 1 frame 0 (λ kind behind.
+    unless (eqb kind kindRecord) (refuses misframed)
+    (andThen (pairSteps u) (λ d. fromPos u reference frame (linkOf d) behind)))
 
 -- "a refusal returns its number with the state it was given"
 abbrev pub refusedReading : (n : ℕ) (back : State) → Reading
 refusedReading n back = record { planned = Refused n; state = back }
 
--- what was read, and the state: with the record's symbols taken, or as it was given
-abbrev pub settled : Planned → (next back : State) → Reading
-settled (Refused n) next back = refusedReading (plannedNumber (Refused n)) back
-settled (Whole p) next back = record { planned = Whole p; state = next }
+-- what was read, and the state: behind the record's symbols, or as it was given
+abbrev pub readingBy : (back : State) → Came Plan → Reading
+readingBy back (came p next) = record { planned = Whole p; state = next }
+readingBy back (stopped n) = refusedReading n back
 
--- the rest of the record, where its pair symbols were there
-abbrev pub afterAnswer : Unit → (reference frame : List ℕ) (next back : State) (at : ℕ) → LinkRead → Reading
-afterAnswer u reference frame next back at (pair.Refused n) = refusedReading (linkNumber (pair.Refused n)) back
-afterAnswer u reference frame next back at (pair.Linked link) = settled (fromPos u reference frame link at) next back
-
--- the pair's answer comes with the state behind the symbols that it took
-abbrev pub afterPair : Unit → (reference frame : List ℕ) (back : State) (at : ℕ) → Paired → Reading
-afterPair u reference frame back at p = afterAnswer u reference frame (p .state) back at (p .answer)
-
--- kind (2), then the pair symbols as they are taken; a refusal hands back the state that was given
+-- what the frame says, from a state on
 unfoldable pub fromKind : Unit → (reference symbols counts : List ℕ) → State → (frame : List ℕ) → Reading
-fromKind u reference symbols counts state frame =
-    withField (refusedReading shortField state) 1 frame 0 (λ kind behind.
-    unless (eqb kind kindRecord) (refusedReading misframed state)
-    (afterPair u reference frame state behind (pairOf u symbols counts state)))
+fromKind u reference symbols counts state frame = readingBy state (decode symbols counts state (recordSteps u reference frame))
 
 -- a line is lent with its 0A
 unfoldable pub planOf : Unit → (reference symbols counts : List ℕ) → State → (line : List ℕ) → Reading
 planOf u reference symbols counts state line =
     afterLine (refusedReading (lineNumber Malformed) state) (lineOf line) (fromKind u reference symbols counts state (unhex line))
+
+-- the symbols that the next record of a unit takes, in order
+abbrev pub recordTakes : Unit → (reference symbols : List ℕ) → State → (line : List ℕ) → List Took
+recordTakes u reference symbols state line = takenIn symbols state (recordSteps u reference (unhex line))

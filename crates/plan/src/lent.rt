@@ -1,5 +1,6 @@
 // What a caller lends, before the line is looked at: refusals 3, 2, 4 and 14, in this order.
-use unit::State;
+use state::State;
+use unit::Pairs;
 use unit::Unit;
 ghost use mathlib.Core.Path.{_≡_};
 ghost use lib.ListN.{length};
@@ -11,7 +12,7 @@ fn counts_out(counts: &[u32]) -> bool
 {
     let mut i: usize = 0;
     while i < counts.len() {
-        if State::SYMBOLS < counts[i] {
+        if Pairs::SYMBOLS < counts[i] {
             return true;
         }
         i += 1;
@@ -36,10 +37,10 @@ pub fn refusal_of(
     if Unit::REFERENCE < reference.len() {
         return refusal::MISFRAMED;
     }
-    if symbols.len() != State::TABLE {
+    if symbols.len() != Pairs::TABLE {
         return refusal::COUNT_OUT;
     }
-    if counts.len() != State::SUBSEQUENCES {
+    if counts.len() != Pairs::SUBSEQUENCES {
         return refusal::COUNT_OUT;
     }
     if counts_out(counts) {

@@ -1,17 +1,21 @@
 // What the frame of a record line says, read and checked whole before a byte is written.
+use crate::segments::first_segment;
+use crate::segments::second_segment;
 use frame::field::Cursor;
 use frame::field::Field;
 use pairing::Link;
 use pairing::LinkRead;
 use segment::Segment;
 use segment::SegmentRead;
-use unit::State;
+use state::State;
 use unit::Unit;
 use unit::kind::Kind;
 ghost use mathlib.Core.Path.{_≡_};
+ghost use mathlib.Core.List.{List};
 ghost use Prim.Native.Nat.{ℕ};
 ghost use Rattle.frame.specs.Field.{fieldAt};
-ghost use Rattle.plan.specs.Plan.{refusedReading, settled, fromKind, fromPos, fromFirst, fromSecond, nothingLeftOver, firstSegment, secondSegment};
+ghost use Rattle.plan.specs.Plan.{plan, refusedReading, readingBy, fromKind, fromPos, fromFirst, fromSecond, nothingLeftOver};
+ghost use Rattle.taking.specs.Steps.{decode};
 
 // A record as it will be listed: its pair link, its position and its segments.
 pub struct Plan {
@@ -26,36 +30,23 @@ pub enum Planned {
     Refused(u32),
 }
 
-// What was read, and the state: with the record's symbols taken, or as it was given where the line is refused.
+// What was read, and the state: behind the record's symbols, or as it was given where the line is refused.
 pub struct Reading {
     pub planned: Planned,
     pub state: State,
 }
 
 // A refusal hands back the state that was given.
-fn refused(n: u32, state: State) -> Reading
-    ensures { λ r. ⌜ r ≡ refusedReading n state ⌝ }
+fn refused(n: u32, back: State) -> Reading
+    ensures { λ r. ⌜ r ≡ refusedReading n back ⌝ }
 {
     Reading {
         planned: Planned::Refused(n),
-        state,
+        state: back,
     }
 }
 
-// The state after what was read.
-fn settle(planned: Planned, next: State, back: State) -> Reading
-    ensures { λ r. ⌜ r ≡ settled planned next back ⌝ }
-{
-    match planned {
-        Planned::Refused(n) => refused(n, back),
-        Planned::Whole(plan) => Reading {
-            planned: Planned::Whole(plan),
-            state: next,
-        },
-    }
-}
-
-// The kind, then the pair symbols as they are taken.
+// The kind, then the pair symbols as they are taken. Below, `state` is the one behind the symbols taken so far, and `back` the one that a refusal hands back.
 pub fn read(
     unit: Unit,
     reference: &[u8],
@@ -81,43 +72,83 @@ pub fn read(
         LinkRead::Refused(n) => refused(n, state),
         LinkRead::Linked(link) => {
             let pos = head.pos;
-            let planned = from_pos(unit, reference, frame, link, pos);
-            settle(planned, next, state)
+            from_pos(
+                unit,
+                reference,
+                symbols,
+                counts,
+                next,
+                state,
+                frame,
+                link,
+                pos,
+            )
         }
     }
 }
 
 // The position, which is 0 in class U. Its field, read with the kind, is looked at only now: the pair symbols come first.
-fn from_pos(unit: Unit, reference: &[u8], frame: &[u8], link: Link, field: Field) -> Planned
-    ensures { λ r. ⌜ ((at : ℕ) → field ≡ fieldAt 4 (now (frame .entry)) at → r ≡ fromPos unit (now (reference .entry)) (now (frame .entry)) link at) ⌝ }
+fn from_pos(
+    unit: Unit,
+    reference: &[u8],
+    symbols: &[u32],
+    counts: &[u32],
+    state: State,
+    back: State,
+    frame: &[u8],
+    link: Link,
+    field: Field,
+) -> Reading
+    ensures { λ r. ⌜ ((at : ℕ) → field ≡ fieldAt 4 (now (frame .entry)) at → r ≡ readingBy back (decode (now (symbols .entry)) (now (counts .entry)) state (fromPos unit (now (reference .entry)) (now (frame .entry)) link at))) ⌝ }
 {
     let Field::Value(pos, next) = field else {
-        return Planned::Refused(refusal::MISFRAMED);
+        return refused(refusal::MISFRAMED, back);
     };
     if unit.class == Unit::U {
         if pos != 0 {
-            return Planned::Refused(refusal::POSITION_OUT);
+            return refused(refusal::POSITION_OUT, back);
         }
-        return from_first(unit, reference, frame, link, pos, next);
     }
-    from_first(unit, reference, frame, link, pos, next)
+    from_first(
+        unit,
+        reference,
+        symbols,
+        counts,
+        state,
+        back,
+        frame,
+        link,
+        pos,
+        next,
+    )
 }
 
 fn from_first(
     unit: Unit,
     reference: &[u8],
+    symbols: &[u32],
+    counts: &[u32],
+    state: State,
+    back: State,
     frame: &[u8],
     link: Link,
     pos: u32,
     c: Cursor,
-) -> Planned
-    ensures { λ r. ⌜ r ≡ fromFirst unit (now (reference .entry)) (now (frame .entry)) link pos (c .at) ⌝ }
+) -> Reading
+    ensures { λ r. ⌜ r ≡ readingBy back (decode (now (symbols .entry)) (now (counts .entry)) state (fromFirst unit (now (reference .entry)) (now (frame .entry)) link pos (c .at))) ⌝ }
 {
-    match first_segment(unit, reference, frame, pos, c) {
-        SegmentRead::Refused(n) => Planned::Refused(n),
+    let moved = first_segment(unit, reference, symbols, counts, state, frame, pos, c);
+    let answer = moved.answer;
+    let behind = moved.state;
+    match answer {
+        SegmentRead::Refused(n) => refused(n, back),
         SegmentRead::Whole(first, next) => from_second(
             unit,
             reference,
+            symbols,
+            counts,
+            behind,
+            back,
             frame,
             link,
             pos,
@@ -127,74 +158,60 @@ fn from_first(
     }
 }
 
-// In class U no segment is aligned.
-fn first_segment(unit: Unit, reference: &[u8], frame: &[u8], pos: u32, c: Cursor) -> SegmentRead
-    ensures { λ r. ⌜ r ≡ firstSegment unit (now (reference .entry)) (now (frame .entry)) pos (c .at) ⌝ }
-{
-    if unit.class == Unit::U {
-        return segment::read_unaligned(frame, unit, c);
-    }
-    segment::read_aligned(frame, unit, reference, pos as u64, c)
-}
-
 fn from_second(
     unit: Unit,
     reference: &[u8],
+    symbols: &[u32],
+    counts: &[u32],
+    state: State,
+    back: State,
     frame: &[u8],
     link: Link,
     pos: u32,
     first: Segment,
     c: Cursor,
-) -> Planned
-    ensures { λ r. ⌜ r ≡ fromSecond unit (now (reference .entry)) (now (frame .entry)) link pos first (c .at) ⌝ }
+) -> Reading
+    ensures { λ r. ⌜ r ≡ readingBy back (decode (now (symbols .entry)) (now (counts .entry)) state (fromSecond unit (now (reference .entry)) (now (frame .entry)) link pos first (c .at))) ⌝ }
 {
     if link.segments < Unit::SEGMENTS {
-        let plan = Plan {
-            link,
-            pos,
-            first,
-            second: Segment::Absent,
-        };
-        return finish(frame, plan, c);
+        return finish(frame, link, pos, first, Segment::Absent, state, back, c);
     }
-    match second_segment(unit, reference, frame, link, pos, c) {
-        SegmentRead::Refused(n) => Planned::Refused(n),
+    let moved = second_segment(unit, reference, symbols, counts, state, frame, link, pos, c);
+    let answer = moved.answer;
+    let behind = moved.state;
+    match answer {
+        SegmentRead::Refused(n) => refused(n, back),
         SegmentRead::Whole(second, next) => {
-            let plan = Plan {
-                link,
-                pos,
-                first,
-                second,
-            };
-            finish(frame, plan, next)
+            finish(frame, link, pos, first, second, behind, back, next)
         }
     }
 }
 
-// In classes HM and U the second segment is not aligned.
-fn second_segment(
-    unit: Unit,
-    reference: &[u8],
+// Nothing may be left over.
+fn finish(
     frame: &[u8],
     link: Link,
     pos: u32,
+    first: Segment,
+    second: Segment,
+    state: State,
+    back: State,
     c: Cursor,
-) -> SegmentRead
-    ensures { λ r. ⌜ r ≡ secondSegment unit (now (reference .entry)) (now (frame .entry)) link pos (c .at) ⌝ }
-{
-    if unit.class < Unit::HM {
-        return segment::read_aligned(frame, unit, reference, link.mate_position(pos), c);
-    }
-    segment::read_unaligned(frame, unit, c)
-}
-
-// Nothing may be left over.
-fn finish(frame: &[u8], plan: Plan, c: Cursor) -> Planned
-    ensures { λ r. ⌜ r ≡ nothingLeftOver (now (frame .entry)) plan (c .at) ⌝ }
+) -> Reading
+    ensures { λ r. ⌜ ((symbols : List ℕ) (counts : List ℕ) → r ≡ readingBy back (decode symbols counts state (nothingLeftOver (now (frame .entry)) (plan link pos first second) (c .at)))) ⌝ }
 {
     let at = c.at;
     if at < frame.len() {
-        return Planned::Refused(refusal::MISFRAMED);
+        return refused(refusal::MISFRAMED, back);
     }
-    Planned::Whole(plan)
+    let plan = Plan {
+        link,
+        pos,
+        first,
+        second,
+    };
+    Reading {
+        planned: Planned::Whole(plan),
+        state,
+    }
 }

@@ -5,7 +5,7 @@ use mathlib.Core.Bool.{true, false, cond}
 use lib.Dec.{ltb}
 use Rattle.writing.specs.declared.lay.Wrote.{Wrote}
 use Rattle.writing.specs.declared.lay.Wrote.the-variants.{Line, NoRoom}
-use Rattle.unit.specs.Listed.{mostListed}
+use Rattle.state.specs.Listed.{mostListed}
 use Rattle.program.specs.declared.sink.Sink.{Sink}
 
 -- nothing is gathered

@@ -1,7 +1,7 @@
 // Lines gathered in a lent buffer for standard output, and written in large pieces.
 use libc::STDOUT_FILENO;
 use listing::close;
-use unit::listed::ListedLine;
+use state::listed::ListedLine;
 use writing::lay::Wrote;
 ghost use mathlib.Core.Path.{_≡_};
 ghost use lib.ListN.{length};

@@ -7,9 +7,10 @@ use native.Mathlib.Omega.{arith}
 use lib.ListN.{length, length-append}
 use Rattle.frame.specs.Hex.{Bytes, be}
 use Rattle.frame.proofs.HexLaws.{length-be, bytes-be, bytes-append}
-use Rattle.unit.specs.Listed.{listedHead}
+use Rattle.state.specs.State.{Shaped}
+use Rattle.state.specs.Listed.{listedHead, linkFields, leastListed}
 use Rattle.unit.specs.declared.Unit.{Unit}
-use Rattle.unit.specs.declared.State.{State}
+use Rattle.state.specs.declared.State.{State}
 use Rattle.pairing.specs.Table60.{mateSeqId, mappingPos}
 use Rattle.pairing.specs.declared.Link.{Link}
 use Rattle.segment.specs.Segment.{segmentBytes}
@@ -17,12 +18,12 @@ use Rattle.segment.specs.code.Length.{segmentLength}
 use Rattle.plan.specs.code.Ready.{ReadyPlan}
 use Rattle.plan.specs.declared.read.Plan.{Plan}
 use Rattle.segment.proofs.BytesLaws.{bytes-segment}
-use Rattle.unit.proofs.ListedLaws.{length-head, bytes-head}
+use Rattle.state.proofs.ListedLaws.{length-head, bytes-head}
 use Rattle.record.specs.Record.{linkBytes, listedBytes}
 
 -- ---- the link
 
-pub length-link : (sequence pos : ℕ) (link : Link) → length (linkBytes sequence pos link) ≡ 9
+pub length-link : (sequence pos : ℕ) (link : Link) → length (linkBytes sequence pos link) ≡ linkFields
 unfolding linkBytes
 length-link sequence pos link = simp (length-append, length-be)
 
@@ -58,7 +59,7 @@ module _ (u : Unit) (reference frame : List ℕ) (number : ℕ) (next : State) (
       (bytes-segment u reference frame (p .second) (h .second))))))
 
   -- the bytes before the segments, and those of each segment
-  pub length-listed : ReadyPlan u reference frame p → length (listedBytes u reference frame number next p) ≡ 12 + 2 * length (next .index) + segmentLength (p .first) + segmentLength (p .second)
+  pub length-listed : Shaped next → ReadyPlan u reference frame p → length (listedBytes u reference frame number next p) ≡ leastListed + segmentLength (p .first) + segmentLength (p .second)
   unfolding listedBytes
-  length-listed h =
-      simp (length-append, length-head, length-link) (omega (arith, h .first-long, h .second-long))
+  length-listed all h =
+      simp (length-append, length-link) (omega (arith, length-head number next all, h .first-long, h .second-long))

@@ -11,9 +11,9 @@ use Rattle.frame.specs.Hex.{unhex}
 use Rattle.frame.specs.Line.{lineOf}
 use Rattle.frame.specs.declared.line.Line.the-variants.{Frame, Malformed}
 use Rattle.unit.specs.Unit.{mostRecords}
-use Rattle.unit.specs.Listed.{refused}
+use Rattle.state.specs.Listed.{refused}
 use Rattle.unit.specs.declared.Unit.{Unit}
-use Rattle.unit.specs.declared.State.{State}
+use Rattle.state.specs.declared.State.{State}
 use Rattle.plan.specs.Lent.{lentRefusal}
 use Rattle.plan.specs.Plan.{planOf, fromKind}
 use Rattle.plan.specs.code.Ready.{ReadyPlan}

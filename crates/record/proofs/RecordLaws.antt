@@ -11,25 +11,24 @@ use lib.ListN.{length, take, getD, length-append}
 use lib.Seq.{length-take-le}
 use Rattle.refusal.specs.Numbers.{fine, Early}
 use Rattle.refusal.proofs.RefusalLaws.{by-number}
+use Rattle.limits.specs.Limits.{recordFields}
 use Rattle.frame.specs.Hex.{Bytes, unhex}
 use Rattle.frame.specs.Line.{lineDigits, lineEnd, lineOf}
 use Rattle.frame.specs.Field.{bigAt}
 use Rattle.frame.specs.declared.line.Line.the-variants.{Frame, Malformed}
 use Rattle.frame.proofs.HexLaws.{by-test}
 use Rattle.frame.proofs.LineLaws.{line-too-long, line-unended}
-use Rattle.unit.specs.State.{subsequences}
-use Rattle.unit.specs.Listed.{mostListed, leastListed, listedHead, Step, refused, accepted}
+use Rattle.state.specs.Listed.{mostListed, leastListed, listedHead, Step, refused, accepted}
 use Rattle.unit.specs.declared.Unit.{Unit as UnitOf}
-use Rattle.unit.specs.declared.State.{State}
+use Rattle.state.specs.declared.State.{State}
 use Rattle.pairing.specs.Table60.{mappingPos}
-use Rattle.pairing.specs.Pairing.{pairOf}
 use Rattle.pairing.specs.declared.Link.{Link}
-use Rattle.pairing.proofs.Laws.{pair-follows, pair-within}
+use Rattle.taking.proofs.Decoding.{decode-follows, follows-within}
 use Rattle.segment.specs.declared.Placed.{Placed}
 use Rattle.segment.specs.declared.Segment.the-variants.{Aligned}
 use Rattle.segment.proofs.StandardLaws.{SegmentAccepted}
 use Rattle.plan.specs.Lent.{lentRefusal}
-use Rattle.plan.specs.Plan.{planOf}
+use Rattle.plan.specs.Plan.{recordSteps, planOf}
 use Rattle.plan.specs.Said.{PlanTaken, AlignedIn}
 use Rattle.plan.specs.declared.read.Plan.{Plan}
 use Rattle.plan.specs.declared.read.Planned.{Planned}
@@ -37,13 +36,14 @@ use Rattle.plan.specs.declared.read.Planned.the-variants.{Whole, Refused}
 use Rattle.plan.proofs.PlanLaws.{plan-taken, plan-ready, first-aligned, second-aligned}
 use Rattle.plan.proofs.RefusalLaws.{EarlyPlan, lent-early, plan-early}
 use Rattle.plan.proofs.StateLaws.{LentTaken, lent-taken}
-use Rattle.record.specs.Record.{linkBytes, listedBytes, after, stepBy, stepOf, withRoom, recordOf}
+use Rattle.record.specs.Record.{linkBytes, listedBytes, stepBy, stepOf, withRoom, recordOf}
+use Rattle.state.specs.State.{after, Shaped}
 use Rattle.record.proofs.BytesLaws.{tailBytes, listed-head, bytes-listed, length-listed, length-link}
-use Rattle.unit.proofs.ListedLaws.{length-head}
+use Rattle.state.proofs.ListedLaws.{length-head}
 
 -- exactly so many bytes stand before the segments
-pub least-listed : (number sequence pos : ℕ) (next : State) (link : Link) → length (next .index) ≡ subsequences → length (listedHead number next ++ linkBytes sequence pos link) ≡ leastListed
-least-listed number sequence pos next link h = simp (length-append, length-head, length-link) (omega arith)
+pub least-listed : (number sequence pos : ℕ) (next : State) (link : Link) → Shaped next → length (listedHead number next ++ linkBytes sequence pos link) ≡ leastListed
+least-listed number sequence pos next link h = simp (length-append, length-link) (omega (arith, length-head number next h))
 
 -- ---- a refusal
 
@@ -62,7 +62,7 @@ module _ (u : UnitOf) (reference symbols counts : List ℕ) (state : State) (lin
       by (Whole p) h = tt
       by (Refused n) h = h
 
-  -- every refusal is a number of the table before 17
+  -- every refusal is a number of the table but 17
   pub step-refusal : (n : ℕ) → stepOf u reference symbols counts state line ≡ refused n → Early n
   step-refusal n e = rw e at step-early
 
@@ -89,7 +89,7 @@ pub record Listed (u : UnitOf) (counts : List ℕ) (state : State) (line frame :
   pub most : 2 * length frame ≤ mostListed
   pub in-count : state .number < u .records
   pub number : next .number ≡ state .number + 1
-  pub indexes : length (next .index) ≡ subsequences
+  pub indexes : Shaped next
   pub in-counts : (i : ℕ) → getD (next .index) i 0 ≤ getD counts i 0
 
 module _ (u : UnitOf) (reference symbols counts : List ℕ) (state : State) (line frame : List ℕ) (next : State) where
@@ -116,12 +116,12 @@ module _ (u : UnitOf) (reference symbols counts : List ℕ) (state : State) (lin
           }
 
   listed : (p : Plan) (moved : State) → LentTaken u (length reference) (length symbols) counts state → PlanTaken u reference symbols counts state line p moved
-      → frame ≡ listedBytes u reference (unhex line) (state .number) (after state moved) p → next ≡ after state moved → length (state .index) ≡ subsequences → Listed u counts state line frame next
-  listed p moved lent taken f n eight =
-      let i : moved ≡ pairOf u symbols counts state .state = taken .moved-is in
-      let eight-after : length (moved .index) ≡ subsequences = rw i (pair-follows u symbols counts state .long ∙ eight) in
+      → frame ≡ listedBytes u reference (unhex line) (state .number) (after state moved) p → next ≡ after state moved → Shaped state → Listed u counts state line frame next
+  listed p moved lent taken f n shaped =
+      let follows = decode-follows symbols counts (recordSteps u reference (unhex line)) state p moved (taken .steps) in
+      let shaped-after : Shaped moved = follows .long ∙ shaped in
       let ready = plan-ready u reference symbols counts state line p moved (lent .unit) taken in
-      let long = length-listed u reference (unhex line) (state .number) (after state moved) p ready in
+      let long = length-listed u reference (unhex line) (state .number) (after state moved) p shaped-after ready in
       rw (f, n)
       record {
         size = taken .size;
@@ -129,16 +129,16 @@ module _ (u : UnitOf) (reference symbols counts : List ℕ) (state : State) (lin
         tail = tailBytes u reference (unhex line) p;
         head = listed-head u reference (unhex line) (state .number) (after state moved) p;
         bytes = bytes-listed u reference (unhex line) (state .number) (after state moved) p ready;
-        least = omega (arith, long, eight-after);
-        most = omega (arith, long, eight-after, ready .first-most, ready .second-most);
+        least = omega (arith, long);
+        most = omega (arith, long, ready .first-most, ready .second-most);
         in-count = lent .in-count;
         number = refl;
-        indexes = eight-after;
-        in-counts = rw i (pair-within u symbols counts state (lent .within));
+        indexes = shaped-after;
+        in-counts = follows-within follows (lent .within);
       }
 
-  pub step-accepted : stepOf u reference symbols counts state line ≡ accepted frame next → length (state .index) ≡ subsequences → Listed u counts state line frame next
-  step-accepted q eight = let s = step-taken q in listed (s .plan) (s .moved) (s .lent) (s .taken) (s .frame-is) (s .next-is) eight
+  pub step-accepted : stepOf u reference symbols counts state line ≡ accepted frame next → Shaped state → Listed u counts state line frame next
+  step-accepted q shaped = let s = step-taken q in listed (s .plan) (s .moved) (s .lent) (s .taken) (s .frame-is) (s .next-is) shaped
 
 -- ---- what the line said is listed, and its aligned segments are accepted ones
 
@@ -162,12 +162,12 @@ module _ (u : UnitOf) (reference symbols counts : List ℕ) (state : State) (lin
   module _ (q : Placed) where
     pub said-first : p .first ≡ Aligned q → SegmentAccepted u reference (unhex line) q × (q .position ≡ bigAt 4 (unhex line) 1)
     said-first e =
-        let a = first-aligned u reference (unhex line) (taken .lent .unit) q 5 p (said-taken .blocks) e in
+        let a = first-aligned u reference (unhex line) symbols counts recordFields _ p _ (said-taken .blocks) (taken .lent .unit) q e in
         (a .0, a .1 ∙ said-taken .pos-is)
 
     pub said-second : p .second ≡ Aligned q → SegmentAccepted u reference (unhex line) q × (q .position ≡ mappingPos (bigAt 4 (unhex line) 1) (p .link .mate))
     said-second e =
-        let a = second-aligned u reference (unhex line) (taken .lent .unit) q 5 p (said-taken .blocks) e in
+        let a = second-aligned u reference (unhex line) symbols counts recordFields _ p _ (said-taken .blocks) (taken .lent .unit) q e in
         (a .0, a .1 ∙ ap (λ (pos : ℕ). mappingPos pos (p .link .mate)) (said-taken .pos-is))
 
     pub said-aligned : AlignedIn p q → SegmentAccepted u reference (unhex line) q
@@ -176,15 +176,15 @@ module _ (u : UnitOf) (reference symbols counts : List ℕ) (state : State) (lin
 -- ---- room for the longest line
 
 -- it is enough for every line: 17 is not answered
-pub record-roomy : (u : UnitOf) (reference symbols counts : List ℕ) (state : State) (line : List ℕ) (room : ℕ) → length (state .index) ≡ subsequences → mostListed < room
+pub record-roomy : (u : UnitOf) (reference symbols counts : List ℕ) (state : State) (line : List ℕ) (room : ℕ) → Shaped state → mostListed < room
     → recordOf u reference symbols counts state line room ≡ stepOf u reference symbols counts state line
 unfolding recordOf
-record-roomy u reference symbols counts state line room eight h = by (stepOf u reference symbols counts state line) refl
+record-roomy u reference symbols counts state line room shaped h = by (stepOf u reference symbols counts state line) refl
   where
     by : (x : Step) → stepOf u reference symbols counts state line ≡ x → withRoom room x ≡ x
     by (refused n) e = refl
     by (accepted frame next) e =
-        let most = step-accepted u reference symbols counts state line frame next e eight .most in
+        let most = step-accepted u reference symbols counts state line frame next e shaped .most in
         rw (lt-ltb (2 * length frame) room (omega (arith, most)))
 
 -- ---- lines that are not well formed

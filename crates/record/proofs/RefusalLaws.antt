@@ -8,9 +8,9 @@ use lib.ListN.{length}
 use Rattle.refusal.specs.Numbers.{Refusal}
 use Rattle.refusal.proofs.RefusalLaws.{early-refusal}
 use Rattle.frame.proofs.Tests.{one-of}
-use Rattle.unit.specs.Listed.{Step, refused, accepted}
+use Rattle.state.specs.Listed.{Step, refused, accepted}
 use Rattle.unit.specs.declared.Unit.{Unit as UnitOf}
-use Rattle.unit.specs.declared.State.{State}
+use Rattle.state.specs.declared.State.{State}
 use Rattle.record.specs.Record.{stepOf, withRoom, recordOf}
 use Rattle.record.proofs.RecordLaws.{step-refusal}
 

@@ -13,8 +13,8 @@ use Rattle.frame.proofs.HexLaws.{by-test}
 use Rattle.writing.specs.Lay.{Laid}
 use Rattle.writing.specs.Whole.{lineInto}
 use Rattle.writing.proofs.WholeLaws.{no-room, room}
-use Rattle.unit.specs.Listed.{accepted}
-use Rattle.unit.specs.declared.State.{State}
+use Rattle.state.specs.Listed.{accepted}
+use Rattle.state.specs.declared.State.{State}
 use Rattle.record.specs.Record.{refusedCall, listedBy, recorded, output, withRoom}
 
 -- what an accepted call leaves in the output is what writes any line there

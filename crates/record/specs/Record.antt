@@ -10,9 +10,10 @@ use Rattle.writing.specs.declared.lay.Wrote.the-variants.{NoRoom}
 use Rattle.frame.specs.Hex.{hexOf, unhex, be}
 use Rattle.frame.specs.Line.{lineEnd}
 use Rattle.frame.specs.Steps.{unless}
-use Rattle.unit.specs.Listed.{listedHead, Step, refused, accepted}
+use Rattle.state.specs.State.{after}
+use Rattle.state.specs.Listed.{listedHead, Step, refused, accepted}
 use Rattle.unit.specs.declared.Unit.{Unit}
-use Rattle.unit.specs.declared.State.{State}
+use Rattle.state.specs.declared.State.{State}
 use Rattle.pairing.specs.Table60.{mateSeqId, mappingPos}
 use Rattle.pairing.specs.declared.Link.{Link}
 use Rattle.segment.specs.Segment.{segmentBytes}
@@ -42,10 +43,6 @@ listedBytes u reference frame number next p =
     ++ segmentBytes u reference frame (p .second)
 
 -- ---- the call
-
--- "The state after a record is the next record number and the eight indexes"
-abbrev pub after : (state moved : State) → State
-after state moved = record { number = state .number + 1; index = moved .index }
 
 -- by what the line says: its refusal, or the 04 line and the next state
 abbrev pub stepBy : Unit → (reference frame : List ℕ) (state moved : State) → Planned → Step

@@ -3,7 +3,7 @@ use crate::Recorded;
 use crate::of_frame;
 use frame::bytes::decode;
 use frame::line::Line;
-use unit::State;
+use state::State;
 use unit::Unit;
 ghost use mathlib.Core.Path.{_≡_};
 ghost use mathlib.Core.List.{[], _∷_};

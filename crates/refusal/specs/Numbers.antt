@@ -1,5 +1,6 @@
 -- Document 01's table of refusal numbers, row by row.
 -- Assumes nothing.
+use mathlib.Core.Path.{_≡_}
 use mathlib.Core.Bool.{cond}
 use Prim.Native.Nat.{ℕ, _<_, _≤_}
 use lib.Dec.{eqb}
@@ -80,16 +81,20 @@ otherLast = 16
 abbrev pub noRoom : ℕ
 noRoom = 17
 
+-- the table's last number; a new one is named above, and raises this one
+abbrev pub lastRefusal : ℕ
+lastRefusal = noRoom
+
 -- ---- what is said of an answer's number
 
 -- a number of the table
 abbrev pub Refusal : ℕ → Type 0
-Refusal n = (fine < n) × (n ≤ noRoom)
+Refusal n = (fine < n) × (n ≤ lastRefusal)
 
--- one that is not its last, 17
+-- any but 17
 abbrev pub Early : ℕ → Type 0
-Early n = (fine < n) × (n < noRoom)
+Early n = Refusal n × (n ≡ noRoom → ⊥)
 
 -- nothing is refused, or it is by such a number
 abbrev pub FineOrEarly : ℕ → Type 0
-FineOrEarly n = n < noRoom
+FineOrEarly n = (n ≤ lastRefusal) × (n ≡ noRoom → ⊥)

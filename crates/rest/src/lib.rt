@@ -5,10 +5,10 @@ use opening::files::FrontRead;
 use opening::files::OpenFiles;
 use program::sink::Sink;
 use program::sink::with_refused;
+use state::State;
 use stream::source::Source;
 use stream::source::pass_lines;
 use stream::source::take;
-use unit::State;
 use unit::Unit;
 
 // How far a listing has come.

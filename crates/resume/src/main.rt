@@ -17,7 +17,7 @@ use program::sink::with_refused;
 use rest::finish;
 use rest::rest;
 use resuming::place::Go;
-use unit::State;
+use unit::Pairs;
 use unit::Unit;
 
 fn usage(fd: i32) {
@@ -78,7 +78,7 @@ fn go_on(
     }
     let front = opened.front;
     let counts = opened.counts;
-    let found = find(fd, front, counts, out);
+    let found = find(fd, front, &counts, out);
     if found.failed {
         os::fail(found_path);
         return;
@@ -98,7 +98,7 @@ fn resume(reference_path: &[u8], unit_path: &[u8], found_path: &[u8]) {
     let mut buf = io::large_buffer();
     let mut out = io::large_buffer();
     let mut reference = [0u8; Unit::REFERENCE];
-    let mut symbols = [0u32; State::TABLE];
+    let mut symbols = [0u32; Pairs::TABLE];
     let opened = open(
         reference_path,
         unit_path,

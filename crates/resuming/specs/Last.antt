@@ -1,7 +1,7 @@
 -- `Last` and `Place` of Resuming as the code's values.
 -- Assumes nothing.
 use Prim.Native.Nat.{ℕ}
-use Rattle.unit.specs.State.{freshState}
+use Rattle.state.specs.State.{freshState}
 use Rattle.listing.specs.Resuming.{Last, goOn, whole, bad, Place, afresh, second, on, over, no}
 use Rattle.resuming.specs.declared.last.Said.{Said}
 use Rattle.resuming.specs.declared.last.LastSays.{LastSays}

@@ -1,9 +1,9 @@
 // Where a listing that was stopped goes on, by its first and its last kept line.
 use crate::last::LastSays;
 use crate::last::last_line;
-use unit::State;
+use state::State;
 ghost use mathlib.Core.Path.{_≡_};
-ghost use Rattle.listing.specs.Lines.{sameList as sameOf};
+ghost use Rattle.frame.specs.Same.{sameList as sameOf};
 ghost use Rattle.listing.specs.Resuming.{lastOf, edgesFrom, onLast, placeBy};
 ghost use Rattle.resuming.specs.Last.{barePlaced, placedOf};
 
@@ -52,8 +52,8 @@ fn same(a: &[u8], b: &[u8]) -> bool
 }
 
 // Behind a last kept line that is not the listing's first one.
-fn behind(last: &[u8], count: u32, counts: [u32; State::SUBSEQUENCES]) -> WhereTo
-    ensures { λ r. ⌜ r ≡ placedOf (onLast (lastOf count counts (now (last .entry)))) ⌝ }
+fn behind(last: &[u8], count: u32, counts: &[u32]) -> WhereTo
+    ensures { λ r. ⌜ r ≡ placedOf (onLast (lastOf count (now (counts .entry)) (now (last .entry)))) ⌝ }
 {
     let said = last_line(last, count, counts);
     let says = said.says;
@@ -66,14 +66,8 @@ fn behind(last: &[u8], count: u32, counts: [u32; State::SUBSEQUENCES]) -> WhereT
 }
 
 // Where to go on behind the kept lines from `first` to `last`, which are empty where nothing is kept, in the listing that begins with `listed`.
-pub fn place(
-    listed: &[u8],
-    count: u32,
-    counts: [u32; State::SUBSEQUENCES],
-    first: &[u8],
-    last: &[u8],
-) -> WhereTo
-    ensures { λ r. ⌜ r ≡ placedOf (placeBy (now (listed .entry)) count counts (edgesFrom (now (first .entry)) (now (last .entry)))) ⌝ }
+pub fn place(listed: &[u8], count: u32, counts: &[u32], first: &[u8], last: &[u8]) -> WhereTo
+    ensures { λ r. ⌜ r ≡ placedOf (placeBy (now (listed .entry)) count (now (counts .entry)) (edgesFrom (now (first .entry)) (now (last .entry)))) ⌝ }
 {
     if first.len() == 0 {
         return bare(Go::Afresh);

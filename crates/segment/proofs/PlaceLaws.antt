@@ -13,6 +13,7 @@ use Rattle.unit.specs.declared.Unit.{Unit}
 use Rattle.segment.specs.Place.{placeRefusal}
 use Rattle.block.specs.Aligned.{alignedAt}
 use Rattle.segment.specs.Segment.{placed, afterBlock, placedAt}
+use Rattle.block.specs.declared.head.BlockHead.{BlockHead}
 use Rattle.block.specs.declared.aligned.AlignedRead.{AlignedRead}
 use Rattle.block.specs.declared.aligned.AlignedRead.the-variants as aligned
 use Rattle.segment.specs.declared.Segment.{Segment}
@@ -33,9 +34,9 @@ place-inside start end position taken q =
 
 -- ---- an aligned segment that was accepted stands inside the unit
 
-pub placed-inside : (u : Unit) (reference frame : List ℕ) (position at : ℕ) (p : Segment) (next : Cursor) → placedAt u reference frame position at ≡ Whole p next → (u .start ≤ position) × (position ≤ u .end)
+pub placed-inside : (u : Unit) (reference frame : List ℕ) (position : ℕ) (h : BlockHead) (p : Segment) (next : Cursor) → placedAt u reference frame position h ≡ Whole p next → (u .start ≤ position) × (position ≤ u .end)
 unfolding placedAt placed
-placed-inside u reference frame position at p next q = by (alignedAt (u .class) (u .alphabet) frame at) q
+placed-inside u reference frame position h p next q = by (alignedAt (u .class) (u .alphabet) frame h) q
   where
     by : (x : AlignedRead) → afterBlock u reference frame position x ≡ Whole p next → (u .start ≤ position) × (position ≤ u .end)
     by (aligned.Refused n) z = absurd (let y : _≡_ {A = ℕ} 0 1 = cc in omega arith)

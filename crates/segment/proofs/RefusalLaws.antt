@@ -1,10 +1,10 @@
--- A segment is refused by a number of document 01's table below 17.
+-- A segment is refused by a number of document 01's table but 17.
 -- Assumes nothing.
 use mathlib.Core.List.{List}
 use Prim.Native.Nat.{ℕ, _+_}
-use lib.Dec.{ltb, lit<}
+use lib.Dec.{ltb}
 use Rattle.refusal.specs.Numbers.{Early, FineOrEarly}
-use Rattle.refusal.proofs.RefusalLaws.{by-number}
+use Rattle.refusal.proofs.RefusalLaws.{by-number, fine-or-early}
 use Rattle.frame.proofs.Tests.{one-of}
 use Rattle.unit.specs.declared.Unit.{Unit as UnitOf}
 use Rattle.bases.proofs.RefusalLaws.{under-early}
@@ -12,6 +12,7 @@ use Rattle.segment.specs.Place.{placeRefusal}
 use Rattle.block.specs.Aligned.{alignedAt}
 use Rattle.block.specs.Unaligned.{unalignedAt}
 use Rattle.segment.specs.Segment.{unlessRefused, underMatches, placed, afterBlock, placedAt, afterPlain, plainAt}
+use Rattle.block.specs.declared.head.BlockHead.{BlockHead}
 use Rattle.block.specs.declared.aligned.AlignedRead.{AlignedRead}
 use Rattle.block.specs.declared.aligned.AlignedRead.the-variants as aligned
 use Rattle.block.specs.declared.unaligned.UnalignedRead.{UnalignedRead}
@@ -31,18 +32,18 @@ EarlySegment (segment.Refused n) = Early n
 place-early : (start end position taken : ℕ) → FineOrEarly (placeRefusal start end position taken)
 unfolding placeRefusal
 place-early start end position taken =
-    one-of FineOrEarly (ltb position start) _ _ (lit< tt)
-    (one-of FineOrEarly (ltb end position) _ _ (lit< tt)
-    (one-of FineOrEarly (ltb (end + 1) (position + taken)) _ _ (lit< tt) (lit< tt)))
+    one-of FineOrEarly (ltb position start) _ _ (fine-or-early tt)
+    (one-of FineOrEarly (ltb end position) _ _ (fine-or-early tt)
+    (one-of FineOrEarly (ltb (end + 1) (position + taken)) _ _ (fine-or-early tt) (fine-or-early tt)))
 
 -- ---- a segment
 
 unless-early : (number : ℕ) (go : SegmentRead) → FineOrEarly number → EarlySegment go → EarlySegment (unlessRefused number go)
 unless-early number go h k = by-number EarlySegment number _ _ h k (λ e. e)
 
-pub placed-early : (u : UnitOf) (reference frame : List ℕ) (position at : ℕ) → EarlySegment (placedAt u reference frame position at)
+pub placed-early : (u : UnitOf) (reference frame : List ℕ) (position : ℕ) (h : BlockHead) → EarlySegment (placedAt u reference frame position h)
 unfolding placedAt placed
-placed-early u reference frame position at = by (alignedAt (u .class) (u .alphabet) frame at) (aligned-early (u .class) (u .alphabet) frame at)
+placed-early u reference frame position h = by (alignedAt (u .class) (u .alphabet) frame h) (aligned-early (u .class) (u .alphabet) frame h)
   where
     by : (x : AlignedRead) → EarlyBlock x → EarlySegment (afterBlock u reference frame position x)
     by (aligned.Whole a) h =

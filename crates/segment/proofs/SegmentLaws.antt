@@ -26,6 +26,8 @@ use Rattle.segment.specs.code.Length.{mostSegmentBytes, segmentLength}
 use Rattle.segment.specs.code.Ready.{Ready}
 use Rattle.block.specs.declared.checked.CheckedField.{CheckedField}
 use Rattle.block.specs.declared.checked.CheckedField.the-variants as field
+use Rattle.block.specs.declared.head.BlockHead.{BlockHead}
+use Rattle.block.specs.code.Ready.{ReadyHead}
 use Rattle.block.specs.declared.aligned.AlignedBlock.{AlignedBlock}
 use Rattle.block.specs.declared.aligned.AlignedRead.{AlignedRead}
 use Rattle.block.specs.declared.aligned.AlignedRead.the-variants as aligned
@@ -88,13 +90,13 @@ module _ (u : Unit) (reference frame : List ℕ) (position : ℕ) where
         (λ t. absurd (let w = simp (s, t) at q in let z : _≡_ {A = ℕ} 0 1 = cc in omega arith)))
         (λ s. absurd (let w = simp s at q in let z : _≡_ {A = ℕ} 0 1 = cc in omega arith))
 
-    pub placed-taken : (at : ℕ) → ((i : ℕ) → getD frame i 0 < 256) → placedAt u reference frame position at ≡ Whole p next → SegmentTaken u reference frame p (next .at)
+    pub placed-taken : (h : BlockHead) → ReadyHead frame h → ((i : ℕ) → getD frame i 0 < 256) → placedAt u reference frame position h ≡ Whole p next → SegmentTaken u reference frame p (next .at)
     unfolding placedAt
-    placed-taken at bytes q = by (alignedAt (u .class) (u .alphabet) frame at) refl q
+    placed-taken h r bytes q = by (alignedAt (u .class) (u .alphabet) frame h) refl q
       where
-        by : (x : AlignedRead) → alignedAt (u .class) (u .alphabet) frame at ≡ x → afterBlock u reference frame position x ≡ Whole p next → SegmentTaken u reference frame p (next .at)
+        by : (x : AlignedRead) → alignedAt (u .class) (u .alphabet) frame h ≡ x → afterBlock u reference frame position x ≡ Whole p next → SegmentTaken u reference frame p (next .at)
         by (aligned.Refused n) e z = absurd (let y : _≡_ {A = ℕ} 0 1 = cc in omega arith)
-        by (aligned.Whole a) e z = aligned-taken a bytes (block-ready (u .class) (u .alphabet) frame a at e) z
+        by (aligned.Whole a) e z = aligned-taken a bytes (block-ready (u .class) (u .alphabet) frame h a r e) z
 
 -- ---- an unaligned segment
 

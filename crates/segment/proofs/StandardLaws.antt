@@ -31,6 +31,8 @@ use Rattle.block.specs.Unaligned.{unalignedAt}
 use Rattle.segment.specs.Place.{placeRefusal}
 use Rattle.segment.specs.Segment.{underMatches, placedSegment, placed, afterBlock, placedAt, afterPlain, plainAt}
 use Rattle.segment.specs.Listed.{listedBases, listedEcigar, listedOperations, editsIn, mappedIn, table92, Matches, Brought, Letter}
+use Rattle.block.specs.declared.head.BlockHead.{BlockHead}
+use Rattle.block.specs.code.Ready.{ReadyHead}
 use Rattle.block.specs.declared.aligned.AlignedBlock.{AlignedBlock}
 use Rattle.block.specs.declared.aligned.AlignedRead.{AlignedRead}
 use Rattle.block.specs.declared.aligned.AlignedRead.the-variants as aligned
@@ -80,21 +82,21 @@ module _ (u : Unit) (reference frame : List ℕ) (position : ℕ) (q : Placed) (
       (λ s. absurd (let w = simp s at e in let z : _≡_ {A = ℕ} 0 1 = cc in omega arith))
 
   -- every aligned segment that is read is such a segment, and stands at the position that was given
-  pub placed-accepted : (at : ℕ) → classP ≤ u .class → u .class ≤ classHM → placedAt u reference frame position at ≡ Whole (Aligned q) next
+  pub placed-accepted : (h : BlockHead) → ReadyHead frame h → classP ≤ u .class → u .class ≤ classHM → placedAt u reference frame position h ≡ Whole (Aligned q) next
       → SegmentAccepted u reference frame q × (q .position ≡ position)
   unfolding placedAt
-  placed-accepted at first last e = by (alignedAt (u .class) (u .alphabet) frame at) refl e
+  placed-accepted h r first last e = by (alignedAt (u .class) (u .alphabet) frame h) refl e
     where
-      by : (x : AlignedRead) → alignedAt (u .class) (u .alphabet) frame at ≡ x → afterBlock u reference frame position x ≡ Whole (Aligned q) next → SegmentAccepted u reference frame q × (q .position ≡ position)
+      by : (x : AlignedRead) → alignedAt (u .class) (u .alphabet) frame h ≡ x → afterBlock u reference frame position x ≡ Whole (Aligned q) next → SegmentAccepted u reference frame q × (q .position ≡ position)
       by (aligned.Refused n) f z = absurd (let y : _≡_ {A = ℕ} 0 1 = cc in omega arith)
-      by (aligned.Whole a) f z = aligned-accepted first last a (block-ready (u .class) (u .alphabet) frame a at f) z
+      by (aligned.Whole a) f z = aligned-accepted first last a (block-ready (u .class) (u .alphabet) frame h a r f) z
 
 -- ---- what is read at an aligned place is aligned, and what is read at another is not
 
 module _ (u : Unit) (frame : List ℕ) (p : Segment) (next : Cursor) where
-  pub placed-aligned : (reference : List ℕ) (position at : ℕ) → placedAt u reference frame position at ≡ Whole p next → (q : Placed) × (p ≡ Aligned q)
+  pub placed-aligned : (reference : List ℕ) (position : ℕ) (h : BlockHead) → placedAt u reference frame position h ≡ Whole p next → (q : Placed) × (p ≡ Aligned q)
   unfolding placedAt placed
-  placed-aligned reference position at e = by (alignedAt (u .class) (u .alphabet) frame at) e
+  placed-aligned reference position h e = by (alignedAt (u .class) (u .alphabet) frame h) e
     where
       by : (x : AlignedRead) → afterBlock u reference frame position x ≡ Whole p next → (q : Placed) × (p ≡ Aligned q)
       by (aligned.Refused n) z = absurd (let y : _≡_ {A = ℕ} 0 1 = cc in omega arith)

@@ -17,6 +17,7 @@ use Rattle.bases.specs.Bases.{referenceRefusal, basesText, lettersAt}
 use Rattle.block.specs.Aligned.{alignedAt, alignedNumber}
 use Rattle.block.specs.Unaligned.{unalignedAt, unalignedNumber}
 use Rattle.segment.specs.Place.{placeRefusal}
+use Rattle.block.specs.declared.head.BlockHead.{BlockHead}
 use Rattle.block.specs.declared.aligned.AlignedBlock.{AlignedBlock}
 use Rattle.block.specs.declared.aligned.AlignedRead.{AlignedRead}
 use Rattle.block.specs.declared.aligned.AlignedRead.the-variants as aligned
@@ -63,9 +64,9 @@ abbrev pub afterBlock : Unit → (reference frame : List ℕ) (position : ℕ) �
 afterBlock u reference frame position (aligned.Refused n) = Refused (alignedNumber (aligned.Refused n))
 afterBlock u reference frame position (aligned.Whole a) = placed u reference frame position a
 
--- an aligned segment of the unit, whose block stands at a place of the frame
-unfoldable pub placedAt : Unit → (reference frame : List ℕ) (position at : ℕ) → SegmentRead
-placedAt u reference frame position at = afterBlock u reference frame position (alignedAt (u .class) (u .alphabet) frame at)
+-- an aligned segment of the unit, behind the head of its block
+unfoldable pub placedAt : Unit → (reference frame : List ℕ) (position : ℕ) → BlockHead → SegmentRead
+placedAt u reference frame position head = afterBlock u reference frame position (alignedAt (u .class) (u .alphabet) frame head)
 
 abbrev pub afterPlain : UnalignedRead → SegmentRead
 afterPlain (unaligned.Refused n) = Refused (unalignedNumber (unaligned.Refused n))

@@ -5,16 +5,19 @@ pub mod write;
 use block::aligned::AlignedBlock;
 use block::aligned::AlignedRead;
 use block::aligned::read_block;
+use block::head::BlockHead;
 use block::unaligned;
 use block::unaligned::UnalignedBlock;
 use block::unaligned::UnalignedRead;
 use edits::Block;
 use edits::run_of;
 use frame::field::Cursor;
+use limits::Limit;
 use unit::Unit;
 ghost use mathlib.Core.Path.{_≡_};
+ghost use Rattle.block.specs.code.Ready.{ReadyHead};
 ghost use Rattle.segment.specs.Segment.{placedAt, placed, plainAt, underMatches};
-ghost use Rattle.segment.specs.code.Length.{fixedBytes, segmentLength};
+ghost use Rattle.segment.specs.code.Length.{segmentLength};
 ghost use Rattle.segment.specs.code.Ready.{Tallied};
 
 // An aligned segment at its position, with the length of its E-CIGAR.
@@ -32,9 +35,6 @@ pub enum Segment {
 }
 
 impl Segment {
-    // The bytes of a listed segment besides its bases and E-CIGAR: position, rcomp, read length, E-CIGAR length.
-    pub const FIXED: usize = 9;
-
     // How many bytes list it.
     pub fn bytes(self) -> usize
         ensures { λ r. ⌜ r ≡ segmentLength self ⌝ }
@@ -42,19 +42,12 @@ impl Segment {
         match self {
             Segment::Aligned(p) => {
                 let block = p.block;
-                Segment::FIXED + block.length as usize + p.text as usize
+                Limit::SEGMENT_FIELDS + block.length as usize + p.text as usize
             }
-            Segment::Unaligned(s) => Segment::FIXED + s.length as usize,
+            Segment::Unaligned(s) => Limit::SEGMENT_FIELDS + s.length as usize,
             Segment::Absent => 0,
         }
     }
-}
-
-// The number is its name in specs/: proved, and called by nothing.
-fn tied() -> usize
-    ensures { λ r. ⌜ r ≡ fixedBytes ⌝ }
-{
-    Segment::FIXED
 }
 
 // A segment and the place behind its block, or the refusal's number.
@@ -63,17 +56,18 @@ pub enum SegmentRead {
     Refused(u32),
 }
 
-// An aligned segment: the block's fields, then its place in the unit (13), then the reference under its matches (10).
+// An aligned segment behind the head of its block: the block's fields, then its place in the unit (13), then the reference under its matches (10).
 pub fn read_aligned(
     frame: &[u8],
     unit: Unit,
     reference: &[u8],
     position: u64,
-    c: Cursor,
+    head: BlockHead,
 ) -> SegmentRead
-    ensures { λ r. ⌜ r ≡ placedAt unit (now (reference .entry)) (now (frame .entry)) position (c .at) ⌝ }
+    requires { ⌜ ReadyHead (now frame) head ⌝ }
+    ensures { λ r. ⌜ r ≡ placedAt unit (now (reference .entry)) (now (frame .entry)) position head ⌝ }
 {
-    match read_block(frame, unit.class, unit.alphabet, c) {
+    match read_block(frame, unit.class, unit.alphabet, head) {
         AlignedRead::Refused(n) => SegmentRead::Refused(n),
         AlignedRead::Whole(a) => place_block(frame, unit, reference, position, a),
     }

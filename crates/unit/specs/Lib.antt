@@ -1,4 +1,3 @@
 pub mod Unit
-pub mod State
+pub mod Pairs
 pub mod Kinds
-pub mod Listed

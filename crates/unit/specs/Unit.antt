@@ -5,6 +5,7 @@ use mathlib.Core.Bool.{cond}
 use lib.Dec.{eqb, ltb}
 use Rattle.refusal.specs.Numbers.{fine, unitOut}
 use Rattle.unit.specs.declared.Unit.{Unit}
+pub use Rattle.limits.specs.Limits.{mostSegments}
 
 -- the classes, as the unit line numbers them: 1 P
 abbrev pub classP : ℕ
@@ -33,10 +34,6 @@ classU = 6
 -- the alphabets are 0 and this
 abbrev pub lastAlphabet : ℕ
 lastAlphabet = 1
-
--- the most template segments
-abbrev pub mostSegments : ℕ
-mostSegments = 2
 
 -- the largest value of 16 bits
 abbrev pub largest16 : ℕ

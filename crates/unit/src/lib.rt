@@ -1,11 +1,11 @@
-// The unit, the state carried between records, and their limits.
+// The unit, its pair symbols, and their limits.
 pub mod kind;
-pub mod listed;
 
+use limits::Limit;
 ghost use mathlib.Core.Path.{_≡_};
 ghost use mathlib.Core.List.{[], _∷_};
 ghost use Rattle.unit.specs.Unit.{classP, classN, classM, classI, classHM, classU, lastAlphabet, mostSegments, largest16, mostRecords, mostReference, unitRefusal, leastSegments};
-ghost use Rattle.unit.specs.State.{subsequences, mostSymbols, tableLength, freshState, within as withinOf};
+ghost use Rattle.unit.specs.Pairs.{subsequences, mostSymbols, tableLength};
 
 // The unit line's eight values.
 pub struct Unit {
@@ -37,7 +37,7 @@ impl Unit {
     pub const ALPHABETS: u32 = 1;
 
     // The most template segments.
-    pub const SEGMENTS: u32 = 2;
+    pub const SEGMENTS: u32 = Limit::SEGMENTS as u32;
 
     // The largest value of 16 bits: no sequence id is above it, and no value used from pair subsequence 1, 4 or 5.
     pub const LARGEST16: u32 = 65_535;
@@ -111,59 +111,29 @@ impl Unit {
     }
 }
 
-// What is carried from record to record: the next record's number, and how many symbols of each subsequence are taken.
-pub struct State {
-    pub number: u32,
-    pub index: [u32; State::SUBSEQUENCES],
-}
+// The symbols of a unit's pair descriptor, lent as a flat table: symbol k of subsequence s stands at s * SYMBOLS + k.
+pub struct Pairs {}
 
-impl State {
-    // How many subsequences of pair symbols there are.
+impl Pairs {
+    // How many subsequences there are.
     pub const SUBSEQUENCES: usize = 8;
 
-    // The most symbols of a subsequence. In the flat table, symbol k of subsequence s stands at s * SYMBOLS + k.
+    // The most symbols of a subsequence.
     pub const SYMBOLS: u32 = 1_024;
 
     // The places of the flat table.
-    pub const TABLE: usize = State::SUBSEQUENCES * (State::SYMBOLS as usize);
+    pub const TABLE: usize = Pairs::SUBSEQUENCES * (Pairs::SYMBOLS as usize);
 
     // Each number is its name in specs/: proved, and called by nothing.
     fn tied() -> [usize; 2]
         ensures { λ r. ⌜ r ≡ subsequences ∷ tableLength ∷ [] ⌝ }
     {
-        [State::SUBSEQUENCES, State::TABLE]
+        [Pairs::SUBSEQUENCES, Pairs::TABLE]
     }
 
     fn tied_symbols() -> u32
         ensures { λ r. ⌜ r ≡ mostSymbols ⌝ }
     {
-        State::SYMBOLS
-    }
-
-    pub fn fresh() -> State
-        ensures { λ r. ⌜ r ≡ freshState ⌝ }
-    {
-        State {
-            number: 0,
-            index: [0u32; State::SUBSEQUENCES],
-        }
-    }
-
-    // No index is above its symbol count.
-    pub fn within(self, counts: &[u32]) -> bool
-        ensures { λ r. ⌜ r ≡ withinOf (self .index) (now (counts .entry)) ⌝ }
-    {
-        let index = self.index;
-        let mut i: usize = 0;
-        while i < State::SUBSEQUENCES {
-            if counts.len() <= i {
-                return false;
-            }
-            if counts[i] < index[i] {
-                return false;
-            }
-            i += 1;
-        }
-        true
+        Pairs::SYMBOLS
     }
 }

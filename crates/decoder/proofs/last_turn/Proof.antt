@@ -27,7 +27,7 @@ returns-2 c =
     let at-finish = c .before .before in
     let at-if2 = at-finish .before .before in
     let at-all-taken = at-if2 .before in
-    let at-if1 = at-all-taken .before .before in
+    let at-if1 = at-all-taken .before in
     last-done _ _ _ _ _ _ (at-all-taken .all-taken .ensures) (at-if1 .if1 .left) (at-if2 .if2 .taken) (at-finish .finish .ensures)
 
 refuse-requires-2 : tie.Need-refuse-requires-2
@@ -41,7 +41,7 @@ returns-3 c =
     let at-refuse2 = c .before .before in
     let at-if2 = at-refuse2 .before .before in
     let at-all-taken = at-if2 .before in
-    let at-if1 = at-all-taken .before .before in
+    let at-if1 = at-all-taken .before in
     last-left _ _ _ _ _ _ (at-all-taken .all-taken .ensures) (at-if1 .if1 .left) (at-if2 .if2 .left) (at-refuse2 .refuse2 .ensures)
 
 pub last-turn-spec : {M : Type 1} → statement M

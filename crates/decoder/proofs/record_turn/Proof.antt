@@ -1,21 +1,15 @@
 -- `decoder::record_turn` meets its contract: what the record call answers picks the case, and it has room. Assumes nothing.
-use Prim.Native.Nat.{ℕ}
-use mathlib.Core.Path.{_≡_, sym, _∙_}
-use mathlib.Core.List.{map}
-use lib.ListN.{length, length-map}
-use borrow.Kind.Array.{good-length, eInt}
-use mir.Syntax.{w32}
-use Rattle.unit.specs.State.{subsequences}
+use mathlib.Core.Path.{_≡_}
+use lib.ListN.{length}
 use Rattle.decoder.proofs.TurnLaws.{record-missing, turn-listed, turn-refused}
 use borrow.Author.Needs.{needs}
 use Rattle.decoder.proofs.record_turn.Statement.{statement}
 use Rattle.decoder.proofs.record_turn.Tie as tie
+use Rattle.state.specs.State.{Shaped}
 
 -- a state has an index for each subsequence
-eight : (start : tie.Start) → length (start .args .state .index) ≡ subsequences
-eight start =
-    let index = start .args .state .index in
-    sym (length-map index (λ (k : ℕ). k)) ∙ good-length (eInt w32) subsequences (map (λ (k : ℕ). k) index) _ (start .good .1 .1 .1 .1 .0 .1 .1 .1 .0)
+shaped : (start : tie.Start) → Shaped (start .args .state)
+shaped start = search needs
 
 refuse-requires : tie.Need-refuse-requires
 refuse-requires c κs = search needs
@@ -48,7 +42,7 @@ returns-2 c =
     let at-if1 = at-record .before .before in
     let at-before = at-if1 .before .before .before .before .before in
     let start = at-before .before in
-    turn-listed _ _ _ _ _ _ _ (at-if1 .if1 .left) (eight start) (start .pre) (at-record .«record» .ensures) _ (at-answer .answer .given .1)
+    turn-listed _ _ _ _ _ _ _ (at-if1 .if1 .left) (shaped start) (start .pre) (at-record .«record» .ensures) _ (at-answer .answer .given .1)
 
 same-length-3 : tie.Need-same-length-3
 same-length-3 c = search needs
@@ -61,7 +55,7 @@ returns-3 c =
     let at-if1 = at-record .before .before in
     let at-before = at-if1 .before .before .before .before .before in
     let start = at-before .before in
-    turn-refused _ _ _ _ _ _ _ (at-if1 .if1 .left) (eight start) (start .pre) (at-record .«record» .ensures) _ (at-answer2 .answer2 .given .1) (at-refuse2 .refuse2 .ensures)
+    turn-refused _ _ _ _ _ _ _ (at-if1 .if1 .left) (shaped start) (start .pre) (at-record .«record» .ensures) _ (at-answer2 .answer2 .given .1) (at-refuse2 .refuse2 .ensures)
 
 pub record-turn-spec : {M : Type 1} → statement M
 record-turn-spec =

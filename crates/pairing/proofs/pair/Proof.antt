@@ -1,6 +1,6 @@
 -- `pairing::pair` meets its contract, by the rules of `With`. Assumes nothing.
 use Rattle.pairing.proofs.With.{done, decode-given, decode-missing, decode-when, decode-unless, decode-same, decode-differ}
-use Rattle.pairing.specs.Pairing.{pairOf, recordSteps}
+use Rattle.pairing.specs.Pairing.{pairOf, pairSteps}
 use borrow.Author.Needs.{needs}
 use Rattle.pairing.proofs.pair.Statement.{statement}
 use Rattle.pairing.proofs.pair.Tie as tie
@@ -9,14 +9,14 @@ linked-requires : tie.Need-linked-requires
 linked-requires c κs = search needs
 
 returns : tie.Need-returns
-unfolding pairOf recordSteps
+unfolding pairOf pairSteps
 returns c = search (done, decode-when, decode-unless)
 
 half-mapped-requires : tie.Need-half-mapped-requires
 half-mapped-requires c κs = search needs
 
 returns-2 : tie.Need-returns-2
-unfolding pairOf recordSteps
+unfolding pairOf pairSteps
 returns-2 c = search (decode-when, decode-unless, decode-same)
 
 take-requires : tie.Need-take-requires
@@ -32,14 +32,14 @@ refused-requires : tie.Need-refused-requires
 refused-requires c κs = search needs
 
 returns-3 : tie.Need-returns-3
-unfolding pairOf recordSteps
+unfolding pairOf pairSteps
 returns-3 c = search (decode-given, decode-missing, decode-when, decode-unless, decode-same, decode-differ)
 
 by-code-requires : tie.Need-by-code-requires
 by-code-requires c κs = search needs
 
 returns-4 : tie.Need-returns-4
-unfolding pairOf recordSteps
+unfolding pairOf pairSteps
 returns-4 c = search (decode-given, decode-when, decode-unless, decode-same, decode-differ)
 
 pub pair-spec : {M : Type 1} → statement M

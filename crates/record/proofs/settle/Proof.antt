@@ -1,18 +1,16 @@
 -- `record::settle` meets its contract: `record-no-room`, and `record-room` over the bytes of the line, which are as many as the code counts. Assumes nothing.
 use Prim.Native.Nat.{ℕ, _+_}
-use mathlib.Core.Path.{_≡_, sym, _∙_}
-use mathlib.Core.List.{List, map}
+use mathlib.Core.Path.{_≡_, _∙_}
+use mathlib.Core.List.{List}
 use native.Mathlib.Omega.{arith}
 use denote.Ref.{now}
-use borrow.Kind.Array.{good-length, eInt}
-use mir.Syntax.{w32}
-use lib.ListN.{length, length-map, length-set}
+use lib.ListN.{length, length-set}
 use Rattle.writing.proofs.LayLaws.{length-laid}
-use Rattle.unit.specs.Listed.{leastListed}
-use Rattle.unit.specs.State.{subsequences}
-use Rattle.unit.specs.declared.State.{State}
+use Rattle.state.specs.Listed.{leastListed}
+use Rattle.state.specs.declared.State.{State}
 use Rattle.segment.specs.code.Length.{segmentLength}
-use Rattle.record.specs.Record.{after, listedBytes}
+use Rattle.record.specs.Record.{listedBytes}
+use Rattle.state.specs.State.{after, Shaped}
 use Rattle.record.proofs.BytesLaws.{length-listed}
 use Rattle.record.proofs.RoomLaws.{record-no-room, record-room}
 use borrow.Author.Needs.{needs}
@@ -25,13 +23,11 @@ next s = after (s .args .state) (s .args .moved)
 abbrev bytes : tie.Start → List ℕ
 bytes s = listedBytes (s .args .unit) (now (s .args .reference)) (now (s .args .frame)) (s .args .state .number) (next s) (s .args .p)
 
-eight : (s : tie.Start) → length (s .args .moved .index) ≡ subsequences
-eight s =
-    sym (length-map (s .args .moved .index) (λ v. v))
-    ∙ good-length (eInt w32) subsequences (map (λ v. v) (s .args .moved .index)) _ (s .good .1 .1 .1 .0 .1 .1 .1 .0)
+all : (s : tie.Start) → Shaped (s .args .moved)
+all s = search needs
 
 long : (s : tie.Start) → length (bytes s) ≡ leastListed + segmentLength (s .args .p .first) + segmentLength (s .args .p .second)
-long s = omega (arith, eight s, length-listed _ _ _ (s .args .state .number) (next s) (s .args .p) (s .pre .0))
+long s = length-listed _ _ _ (s .args .state .number) (next s) (s .args .p) (all s) (s .pre .0)
 
 bytes-requires : tie.Need-bytes-requires
 bytes-requires c κs = search needs

@@ -7,9 +7,9 @@ use mathlib.Core.List.{List}
 use Rattle.frame.specs.Hex.{unhex}
 use Rattle.frame.specs.Line.{lineDigits, lineOf}
 use Rattle.frame.specs.declared.line.Line.the-variants.{Frame}
-use Rattle.unit.specs.Listed.{Step}
+use Rattle.state.specs.Listed.{Step}
 use Rattle.unit.specs.declared.Unit.{Unit}
-use Rattle.unit.specs.declared.State.{State}
+use Rattle.state.specs.declared.State.{State}
 use Rattle.plan.specs.Plan.{fromKind}
 use Rattle.plan.specs.declared.read.Reading.{Reading}
 use Rattle.record.specs.Record.{stepBy}

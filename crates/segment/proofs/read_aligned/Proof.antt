@@ -18,7 +18,7 @@ enum-known-a c = search needs
 
 place-block-requires : tie.Need-place-block-requires
 place-block-requires c κs =
-    let r = block-ready _ _ _ _ _ (sym (c .before .before .before .read-block .ensures) ∙ c .before .a .given .1) in
+    let r = block-ready _ _ _ _ _ (c .before .before .before .before .before .before .pre) (sym (c .before .before .before .read-block .ensures) ∙ c .before .a .given .1) in
     record { framed = r .framed; taken = r .taken }
 
 returns : tie.Need-returns

@@ -21,9 +21,6 @@ returns-2 : tie.Need-returns-2
 unfolding placeCall
 returns-2 c = rw (eq-eqb _ _ (c .before .before .if1 .left), ne-eqb _ _ (c .before .if2 .taken), told (c .refused2 .ok) (c .refused2 .ensures))
 
-read-counts-requires : tie.Need-read-counts-requires
-read-counts-requires c κs = search needs
-
 place-requires : tie.Need-place-requires
 place-requires c κs = search needs
 
@@ -37,10 +34,9 @@ returns-3 : tie.Need-returns-3
 returns-3 c =
     let at-settle = c .before .before in
     let at-place = at-settle .before .before in
-    let at-read-counts = at-place .before in
-    let at-if2 = at-read-counts .before in
+    let at-if2 = at-place .before in
     let at-if1 = at-if2 .before in
-    place-found _ _ _ _ _ _ (at-if1 .if1 .left) (at-if2 .if2 .left) (at-read-counts .read-counts .ensures) (at-place .place .ensures) (told-outcome (at-settle .settle .ok) (at-settle .settle .ensures))
+    place-found _ _ _ _ _ _ (at-if1 .if1 .left) (at-if2 .if2 .left) (at-place .place .ensures) (told-outcome (at-settle .settle .ok) (at-settle .settle .ensures))
 
 pub lampbuckle-place-spec : {M : Type 1} → statement M
 lampbuckle-place-spec =
@@ -50,7 +46,6 @@ lampbuckle-place-spec =
     returns
     refused-requires-2
     returns-2
-    read-counts-requires
     place-requires
     settle-requires
     same-length

@@ -3,7 +3,7 @@ use Prim.Native.Nat.{_-_}
 use mathlib.Core.Path.{_≡_}
 use borrow.Author.Needs.{needs}
 use lib.ListN.{length}
-use Rattle.unit.specs.State.{subsequences}
+use Rattle.unit.specs.Pairs.{subsequences}
 use Rattle.opening.proofs.files.read_pairs.Statement.{statement}
 use Rattle.opening.proofs.files.read_pairs.Tie as tie
 

@@ -1,8 +1,10 @@
--- `plan::read::read` meets its contract: the field, the kind, then the pair answer. Assumes nothing.
+-- `plan::read::read` meets its contract: the field, the kind, then what the pair symbols came to. Assumes nothing.
+use mathlib.Core.Path.{sym, ap, _∙_}
 use Rattle.reader.proofs.HeadLaws.{head-kind, head-pos}
-use Rattle.frame.proofs.StepLaws.{steps}
-use Rattle.plan.proofs.Steps.{linked, unlinked}
+use Rattle.pairing.specs.declared.Paired.{Paired}
+use Rattle.pairing.proofs.Laws.{pair-came, pair-stopped}
 use Rattle.plan.specs.Plan.{fromKind}
+use Rattle.plan.proofs.Steps.{kind-short, kind-other, kind-right, same-steps, refused-steps, steps-go-on, steps-stop}
 use borrow.Author.Needs.{needs}
 use Rattle.plan.proofs.read.read.Statement.{statement}
 use Rattle.plan.proofs.read.read.Tie as tie
@@ -21,14 +23,14 @@ refused-requires c κs = search needs
 
 returns : tie.Need-returns
 unfolding fromKind
-returns c = search (steps, head-kind)
+returns c = refused-steps _ _ _ _ _ _ _ (kind-short _ _ _ (sym (head-kind _ (c .before .before .before .read .ensures)) ∙ c .before .enum-told .given .1)) (c .refused .ensures)
 
 refused-requires-2 : tie.Need-refused-requires-2
 refused-requires-2 c κs = search needs
 
 returns-2 : tie.Need-returns-2
 unfolding fromKind
-returns-2 c = search (steps, head-kind)
+returns-2 c = refused-steps _ _ _ _ _ _ _ (kind-other _ _ _ _ _ (sym (head-kind _ (c .before .before .before .before .before .read .ensures)) ∙ c .before .before .before .field .given .1) (c .before .if1 .taken)) (c .refused2 .ensures)
 
 pair-requires : tie.Need-pair-requires
 pair-requires c κs = search needs
@@ -45,17 +47,23 @@ enum-known-answer-2 c = search needs
 from-pos-requires : tie.Need-from-pos-requires
 from-pos-requires c κs = search needs
 
-settle-requires : tie.Need-settle-requires
-settle-requires c κs = search needs
-
 returns-3 : tie.Need-returns-3
 unfolding fromKind
-returns-3 c = search (steps, head-kind, unlinked)
+returns-3 c =
+    let read = c .before .before .before .before .before .before .before .before .before .before in
+    let pair = c .before .before .before .before .before in
+    same-steps _ _ _ _ _ _ _ (kind-right _ _ _ _ _ (sym (head-kind _ (read .read .ensures)) ∙ c .before .before .before .before .before .before .before .before .field .given .1) (pair .before .if1 .left))
+    (steps-stop _ _ _ _ _ _ _ _ (pair-stopped _ _ _ _ _ (sym (ap (λ (r : Paired). r .answer) (pair .pair .ensures)) ∙ c .before .before .answer .given .1)) (c .refused3 .ensures))
 
--- the head's second field is the one that stands where the kind ends
 returns-4 : tie.Need-returns-4
 unfolding fromKind
-returns-4 c = search (steps, head-kind, linked, c .before .from-pos .ensures, head-pos)
+returns-4 c =
+    let read = c .before .before .before .before .before .before .before .before .before .before in
+    let pair = c .before .before .before .before .before in
+    let field = c .before .before .before .before .before .before .before .before .field .given .1 in
+    let w = pair-came _ _ _ _ _ (sym (ap (λ (r : Paired). r .answer) (pair .pair .ensures)) ∙ c .before .before .answer2 .given .1) in
+    same-steps _ _ _ _ _ _ _ (kind-right _ _ _ _ _ (sym (head-kind _ (read .read .ensures)) ∙ field) (pair .before .if1 .left))
+    (steps-go-on _ _ _ _ _ _ _ _ _ (w .is) (rw (w .link-is, ← w .state-is, ← pair .pair .ensures) (c .from-pos .ensures _ (head-pos _ _ _ (read .read .ensures) field))))
 
 pub read-spec : {M : Type 1} → statement M
 read-spec =
@@ -73,6 +81,5 @@ read-spec =
     refused-requires-3
     enum-known-answer-2
     from-pos-requires
-    settle-requires
     returns-3
     returns-4)

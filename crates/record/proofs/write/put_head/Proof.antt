@@ -1,36 +1,25 @@
--- `record::write::put_head` meets its contract: kind and number in one piece, the indexes right behind it. Assumes nothing.
+-- `record::write::put_head` meets its contract: its bytes in one piece. Assumes nothing.
+use Prim.Native.Nat.{ℕ}
 use native.Mathlib.Nat.{zero-add}
-use native.Mathlib.Omega.{arith}
-use lib.ListN.{length-append}
-use Rattle.writing.proofs.LayLaws.{laid-as, laid-then, room-next}
-use Rattle.unit.specs.Listed.{words, listedHead}
+use mathlib.Core.Path.{_≡_}
+use lib.ListN.{length}
+use Rattle.state.specs.State.{Shaped}
+use Rattle.state.specs.Listed.{headBytes, listedHead}
+use Rattle.state.proofs.ListedLaws.{length-head}
+use Rattle.writing.proofs.LayLaws.{laid-as}
 use borrow.Author.Needs.{needs}
 use Rattle.record.proofs.write.put_head.Statement.{statement}
 use Rattle.record.proofs.write.put_head.Tie as tie
 
 put-bytes-requires : tie.Need-put-bytes-requires
-unfolding listedHead
 put-bytes-requires c κs =
-    let n = c .before .before .before in
-    let h = simp length-append at (n .before .before .before .pre) in
-    rw (n .number-bytes .ensures) (simp length-append (omega arith))
-
-put-bytes-requires-2 : tie.Need-put-bytes-requires-2
-unfolding listedHead
-put-bytes-requires-2 c κs =
-    let d = c .before .before .before .before in
-    let i = d .before .before .before in
-    let n = i .before in
-    rw (i .index-bytes .ensures) (room-next (words _) (laid-as (n .number-bytes .ensures) (d .put-bytes .ensures)) (rw zero-add (n .before .before .before .pre)))
+    let start = c .before .before .before .before in
+    let all : Shaped (start .args .next) = search needs in
+    let long : (n : ℕ) → length (listedHead n (start .args .next)) ≡ headBytes = λ n. length-head n (start .args .next) all in
+    rw (c .before .before .bytes .ensures, zero-add, long) (rw long at (start .pre))
 
 returns : tie.Need-returns
-unfolding listedHead
-returns c =
-    let d = c .before .before .before .before .before .before .before in
-    let i = d .before .before .before in
-    laid-then (laid-as (i .before .number-bytes .ensures) (d .put-bytes .ensures)) (laid-as (i .index-bytes .ensures) (c .before .before .put-bytes2 .ensures))
+returns c = laid-as (c .before .before .before .before .before .bytes .ensures) (c .before .before .put-bytes .ensures)
 
 pub put-head-spec : {M : Type 1} → statement M
-put-head-spec =
-    tie.close
-    (tie.spec (λ c κs. search needs) (λ c κs. search needs) (λ c. search needs) put-bytes-requires (λ c. search needs) put-bytes-requires-2 (λ c. search needs) returns)
+put-head-spec = tie.close (tie.spec (λ c κs. search needs) (λ c. search needs) put-bytes-requires (λ c. search needs) returns)

@@ -6,7 +6,7 @@ use native.Mathlib.Omega.{arith}
 use denote.Ref.{now}
 use lib.ListN.{length, length-append}
 use Rattle.writing.proofs.LayLaws.{laid-then, laid-rest, length-laid, room-next}
-use Rattle.unit.specs.Listed.{listedHead}
+use Rattle.state.specs.Listed.{listedHead}
 use Rattle.segment.specs.Segment.{segmentBytes}
 use Rattle.segment.specs.declared.Segment.{Segment}
 use Rattle.record.specs.Record.{linkBytes, listedBytes}

@@ -15,17 +15,17 @@ wide-requires : tie.Need-wide-requires
 wide-requires c κs = search needs
 
 listed-last-requires : tie.Need-listed-last-requires
-listed-last-requires c κs = c .before .before .before .before .pre
+listed-last-requires c κs = search needs
 
 returns : tie.Need-returns
 returns c =
     let at-if1 = c .before in
     let at-wide = at-if1 .before in
     let at-byte-at = at-wide .before in
-    let at-start = at-byte-at .before .before in
+    let at-start = at-byte-at .before .before .before in
     let a = at-start .args in
     let kind = at-wide .wide .ensures ∙ at-byte-at .byte-at .ensures in
-    c .listed-last .ensures ∙ ap saidOf (frame-is-listed (a .count) (a .counts) (unhex (now (a .line))) _ (at-start .pre) _ kind (at-if1 .if1 .taken))
+    c .listed-last .ensures ∙ ap saidOf (frame-is-listed (a .count) (now (a .counts)) (unhex (now (a .line))) _ (at-start .pre) _ kind (at-if1 .if1 .taken))
 
 bare-requires : tie.Need-bare-requires
 bare-requires c κs = search needs
@@ -38,10 +38,10 @@ returns-2 c =
     let at-if1 = at-if2 .before in
     let at-wide = at-if1 .before in
     let at-byte-at = at-wide .before in
-    let at-start = at-byte-at .before .before in
+    let at-start = at-byte-at .before .before .before in
     let a = at-start .args in
     let kind = at-wide .wide .ensures ∙ at-byte-at .byte-at .ensures in
-    c .bare .ensures ∙ ap saidOf (frame-05 (a .count) (a .counts) (unhex (now (a .line))) _ (at-start .pre) _ kind (at-if1 .if1 .left) (at-if2 .if2 .taken) (at-if3 .if3 .taken))
+    c .bare .ensures ∙ ap saidOf (frame-05 (a .count) (now (a .counts)) (unhex (now (a .line))) _ (at-start .pre) _ kind (at-if1 .if1 .left) (at-if2 .if2 .taken) (at-if3 .if3 .taken))
 
 bare-requires-2 : tie.Need-bare-requires-2
 bare-requires-2 c κs = search needs
@@ -54,10 +54,10 @@ returns-3 c =
     let at-if1 = at-if2 .before in
     let at-wide = at-if1 .before in
     let at-byte-at = at-wide .before in
-    let at-start = at-byte-at .before .before in
+    let at-start = at-byte-at .before .before .before in
     let a = at-start .args in
     let kind = at-wide .wide .ensures ∙ at-byte-at .byte-at .ensures in
-    c .bare2 .ensures ∙ ap saidOf (frame-not-05 (a .count) (a .counts) (unhex (now (a .line))) _ (at-start .pre) _ kind (at-if1 .if1 .left) (at-if2 .if2 .taken) (at-if3 .if3 .left))
+    c .bare2 .ensures ∙ ap saidOf (frame-not-05 (a .count) (now (a .counts)) (unhex (now (a .line))) _ (at-start .pre) _ kind (at-if1 .if1 .left) (at-if2 .if2 .taken) (at-if3 .if3 .left))
 
 bare-requires-3 : tie.Need-bare-requires-3
 bare-requires-3 c κs = search needs
@@ -71,10 +71,10 @@ returns-4 c =
     let at-if1 = at-if2 .before in
     let at-wide = at-if1 .before in
     let at-byte-at = at-wide .before in
-    let at-start = at-byte-at .before .before in
+    let at-start = at-byte-at .before .before .before in
     let a = at-start .args in
     let kind = at-wide .wide .ensures ∙ at-byte-at .byte-at .ensures in
-    c .bare3 .ensures ∙ ap saidOf (frame-06 (a .count) (a .counts) (unhex (now (a .line))) _ (at-start .pre) _ kind (at-if1 .if1 .left) (at-if2 .if2 .left) (at-if4 .if4 .taken) (at-if5 .if5 .taken))
+    c .bare3 .ensures ∙ ap saidOf (frame-06 (a .count) (now (a .counts)) (unhex (now (a .line))) _ (at-start .pre) _ kind (at-if1 .if1 .left) (at-if2 .if2 .left) (at-if4 .if4 .taken) (at-if5 .if5 .taken))
 
 bare-requires-4 : tie.Need-bare-requires-4
 bare-requires-4 c κs = search needs
@@ -88,10 +88,10 @@ returns-5 c =
     let at-if1 = at-if2 .before in
     let at-wide = at-if1 .before in
     let at-byte-at = at-wide .before in
-    let at-start = at-byte-at .before .before in
+    let at-start = at-byte-at .before .before .before in
     let a = at-start .args in
     let kind = at-wide .wide .ensures ∙ at-byte-at .byte-at .ensures in
-    c .bare4 .ensures ∙ ap saidOf (frame-not-06 (a .count) (a .counts) (unhex (now (a .line))) _ (at-start .pre) _ kind (at-if1 .if1 .left) (at-if2 .if2 .left) (at-if4 .if4 .taken) (at-if5 .if5 .left))
+    c .bare4 .ensures ∙ ap saidOf (frame-not-06 (a .count) (now (a .counts)) (unhex (now (a .line))) _ (at-start .pre) _ kind (at-if1 .if1 .left) (at-if2 .if2 .left) (at-if4 .if4 .taken) (at-if5 .if5 .left))
 
 bare-requires-5 : tie.Need-bare-requires-5
 bare-requires-5 c κs = search needs
@@ -104,10 +104,10 @@ returns-6 c =
     let at-if1 = at-if2 .before in
     let at-wide = at-if1 .before in
     let at-byte-at = at-wide .before in
-    let at-start = at-byte-at .before .before in
+    let at-start = at-byte-at .before .before .before in
     let a = at-start .args in
     let kind = at-wide .wide .ensures ∙ at-byte-at .byte-at .ensures in
-    c .bare5 .ensures ∙ ap saidOf (frame-other (a .count) (a .counts) (unhex (now (a .line))) _ (at-start .pre) _ kind (at-if1 .if1 .left) (at-if2 .if2 .left) (at-if4 .if4 .left))
+    c .bare5 .ensures ∙ ap saidOf (frame-other (a .count) (now (a .counts)) (unhex (now (a .line))) _ (at-start .pre) _ kind (at-if1 .if1 .left) (at-if2 .if2 .left) (at-if4 .if4 .left))
 
 pub frame-last-spec : {M : Type 1} → statement M
 frame-last-spec =

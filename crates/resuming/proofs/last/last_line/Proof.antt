@@ -2,7 +2,7 @@
 use mathlib.Core.Path.{sym, ap, _∙_}
 use denote.Ref.{now}
 use Rattle.frame.proofs.LineLaws.{frame-is-line}
-use Rattle.unit.specs.Listed.{mostListed}
+use Rattle.state.specs.Listed.{mostListed}
 use Rattle.resuming.specs.Last.{saidOf}
 use Rattle.listing.proofs.LastLaws.{last-malformed, last-frame}
 use borrow.Author.Needs.{needs}
@@ -23,8 +23,8 @@ bare-requires c κs = search needs
 
 returns : tie.Need-returns
 unfolding saidOf
-returns c = let a = c .before .before .before .before .before .args in
-    c .bare .ensures ∙ ap saidOf (last-malformed (a .count) (a .counts) (now (a .line)) (sym (c .before .before .before .line-within .ensures) ∙ c .before .enum-told .given .1))
+returns c = let a = c .before .before .before .before .before .before .args in
+    c .bare .ensures ∙ ap saidOf (last-malformed (a .count) (now (a .counts)) (now (a .line)) (sym (c .before .before .before .line-within .ensures) ∙ c .before .enum-told .given .1))
 
 frame-last-requires : tie.Need-frame-last-requires
 frame-last-requires c κs = frame-is-line mostListed _ _ (sym (c .before .before .before .line-within .ensures) ∙ c .before .bytes .given .1) .count
@@ -33,9 +33,9 @@ returns-2 : tie.Need-returns-2
 returns-2 c =
     let at-bytes = c .before .before in
     let at-line-within = at-bytes .before .before in
-    let at-start = at-line-within .before .before in
+    let at-start = at-line-within .before .before .before in
     let a = at-start .args in
-    c .frame-last .ensures ∙ ap saidOf (last-frame (a .count) (a .counts) (now (a .line)) _ (sym (at-line-within .line-within .ensures) ∙ at-bytes .bytes .given .1))
+    c .frame-last .ensures ∙ ap saidOf (last-frame (a .count) (now (a .counts)) (now (a .line)) _ (sym (at-line-within .line-within .ensures) ∙ at-bytes .bytes .given .1))
 
 pub last-line-spec : {M : Type 1} → statement M
 last-line-spec =

@@ -1,9 +1,8 @@
 -- `resuming::place::place` meets its contract: the tests on the way pick the case. Assumes nothing.
 use mathlib.Core.Path.{sym, _∙_}
-use borrow.Author.Tests.{not-true, not-false}
+use borrow.Author.Tests.{not-true, not-false, eq-eqb, ne-eqb}
 use Rattle.listing.specs.Resuming.{edgesFrom}
 use Rattle.resuming.specs.Last.{placedOf}
-use borrow.Author.Tests.{eq-eqb, ne-eqb}
 use borrow.Author.Needs.{needs}
 use Rattle.resuming.proofs.place.place.Statement.{statement}
 use Rattle.resuming.proofs.place.place.Tie as tie

@@ -4,8 +4,8 @@ use native.Mathlib.Omega.{arith}
 use mathlib.Core.Path.{_≡_, refl, sym, _∙_}
 use denote.Ref.{now}
 use lib.ListN.{drop}
-use Rattle.listing.specs.Lines.{sameList}
-use Rattle.listing.proofs.LinesLaws.{same-longer, same-over, same-stops, same-goes}
+use Rattle.frame.specs.Same.{sameList}
+use Rattle.frame.proofs.SameLaws.{same-longer, same-over, same-stops, same-goes}
 use Rattle.resuming.proofs.place.same.Statement.{statement}
 use Rattle.resuming.proofs.place.same.Tie as tie
 

@@ -1,0 +1,6 @@
+pub mod FillLaws
+pub mod StateLaws
+pub mod ListedLaws
+pub mod HeadLaws
+pub mod NumberLaws
+pub mod Unique

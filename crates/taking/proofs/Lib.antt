@@ -1,0 +1,4 @@
+pub mod Taking
+pub mod Decoding
+pub mod Reading
+pub mod Unique

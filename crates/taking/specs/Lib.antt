@@ -1,0 +1,3 @@
+pub mod Take
+pub mod Steps
+pub mod Reading
