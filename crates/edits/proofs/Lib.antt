@@ -1,3 +1,4 @@
 pub mod EditLaws
+pub mod PieceLaws
 pub mod Unique
 pub mod RefusalLaws

@@ -2,7 +2,7 @@
 -- Assumes nothing.
 use Prim.Native.Nat.{ℕ, _+_, _-_}
 use Rattle.edits.specs.declared.Clips.{Clips}
-pub use Rattle.limits.specs.Limits.{mostRead, mostEdits, mostEcigar}
+pub use Rattle.limits.specs.Limits.{mostRead, mostEdits, mostPieces, mostEcigar}
 
 -- classes P, N and M have no clips
 abbrev pub noClips : Clips

@@ -1,3 +1,4 @@
 pub mod Lengths
 pub mod Edits
+pub mod Pieces
 pub mod code

@@ -59,7 +59,7 @@ fn wide(b: u8) -> u16
 }
 
 // The offset of the edit at a place of the frame.
-fn offset_at(frame: &[u8], at: usize) -> u16
+pub(crate) fn offset_at(frame: &[u8], at: usize) -> u16
     requires { ⌜ at + 2 ≤ length (now frame) ⌝ }
     ensures { λ r. ⌜ r ≡ offsetAt (now (frame .entry)) at ⌝ }
 {

@@ -16,9 +16,17 @@ mostRead = 1000
 abbrev pub mostEdits : ℕ
 mostEdits = 1000
 
--- the longest E-CIGAR
+-- the most pieces of a read over introns (document 02, Wish 1)
+abbrev pub mostPieces : ℕ
+mostPieces = 16
+
+-- the longest splice in an E-CIGAR: a count of ten digits, and its sign
+abbrev pub mostSplice : ℕ
+mostSplice = 11
+
+-- the longest E-CIGAR, 4,179 characters: two for each base and each edit, two clips of seven, and the splices between the pieces
 abbrev pub mostEcigar : ℕ
-mostEcigar = 4014
+mostEcigar = 2 * mostRead + 2 * mostEdits + 14 + (mostPieces - 1) * mostSplice
 
 -- ---- its frame
 
@@ -26,9 +34,9 @@ mostEcigar = 4014
 abbrev pub recordFields : ℕ
 recordFields = 5
 
--- of a block: read length u16, rcomp, four clips u16 each, edit count u16
+-- of a block: read length u16, rcomp, the number of pieces, a byte, and their lengths u16 each, four clips u16 each, edit count u16
 abbrev pub blockFields : ℕ
-blockFields = 13
+blockFields = 14 + 2 * mostPieces
 
 -- of an edit: offset u16, type and symbol
 abbrev pub editBytes : ℕ
@@ -38,7 +46,7 @@ editBytes = 4
 abbrev pub mostBlock : ℕ
 mostBlock = blockFields + (mostRead - 1) + mostEdits * editBytes
 
--- the longest frame: 10,029 bytes
+-- the longest frame: 10,095 bytes
 abbrev pub mostFrame : ℕ
 mostFrame = recordFields + mostSegments * mostBlock
 

@@ -1,7 +1,7 @@
 // How much a record may have, and from it how long its frame and its 04 line may be: each sum is made of its parts, so that a new field moves one number.
 ghost use mathlib.Core.Path.{_≡_};
 ghost use mathlib.Core.List.{[], _∷_};
-ghost use Rattle.limits.specs.Limits.{mostSegments, mostRead, mostEdits, mostEcigar, recordFields, blockFields, editBytes, mostFrame, segmentFields, mostSegmentBytes};
+ghost use Rattle.limits.specs.Limits.{mostSegments, mostRead, mostEdits, mostPieces, mostSplice, mostEcigar, recordFields, blockFields, editBytes, mostFrame, segmentFields, mostSegmentBytes};
 
 pub struct Limit {}
 
@@ -15,14 +15,23 @@ impl Limit {
     // The most edits of a segment.
     pub const EDITS: usize = 1_000;
 
-    // The longest E-CIGAR.
-    pub const ECIGAR: usize = 4_014;
+    // The most pieces of a read over introns.
+    pub const PIECES: usize = 16;
+
+    // The longest splice in an E-CIGAR: a count of ten digits, and its sign.
+    pub const SPLICE: usize = 11;
+
+    // The longest E-CIGAR: two characters a base and an edit, two clips of seven, and the splices between the pieces.
+    pub const ECIGAR: usize = 2 * Limit::READ
+        + 2 * Limit::EDITS
+        + 14
+        + (Limit::PIECES - 1) * Limit::SPLICE;
 
     // The bytes of a record's frame besides its blocks: kind and pos.
     pub const RECORD_FIELDS: usize = 5;
 
-    // The bytes of a block besides its soft-clipped bases and edits: read length, rcomp, four clips and the edit count.
-    pub const BLOCK_FIELDS: usize = 13;
+    // The bytes of a block besides its soft-clipped bases and edits: read length, rcomp, the number of pieces and their lengths, four clips and the edit count.
+    pub const BLOCK_FIELDS: usize = 14 + 2 * Limit::PIECES;
 
     // The bytes of the longest edit: offset, type and symbol.
     pub const EDIT: usize = 4;
@@ -40,13 +49,15 @@ impl Limit {
     pub const SEGMENT: usize = Limit::SEGMENT_FIELDS + Limit::READ + Limit::ECIGAR;
 
     // Each number is its name in specs/: proved, and called by nothing.
-    fn tied() -> [usize; 10]
-        ensures { λ r. ⌜ r ≡ mostSegments ∷ mostRead ∷ mostEdits ∷ mostEcigar ∷ recordFields ∷ blockFields ∷ editBytes ∷ mostFrame ∷ segmentFields ∷ mostSegmentBytes ∷ [] ⌝ }
+    fn tied() -> [usize; 12]
+        ensures { λ r. ⌜ r ≡ mostSegments ∷ mostRead ∷ mostEdits ∷ mostPieces ∷ mostSplice ∷ mostEcigar ∷ recordFields ∷ blockFields ∷ editBytes ∷ mostFrame ∷ segmentFields ∷ mostSegmentBytes ∷ [] ⌝ }
     {
         [
             Limit::SEGMENTS,
             Limit::READ,
             Limit::EDITS,
+            Limit::PIECES,
+            Limit::SPLICE,
             Limit::ECIGAR,
             Limit::RECORD_FIELDS,
             Limit::BLOCK_FIELDS,

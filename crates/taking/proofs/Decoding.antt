@@ -14,7 +14,7 @@ use Rattle.unit.specs.Unit.{largest16}
 use Rattle.state.specs.State.{taken, raised}
 use Rattle.state.specs.declared.State.{State}
 use Rattle.taking.specs.Take.{symbolOf}
-use Rattle.taking.specs.Steps.{Steps, sets, takes, refuses, within16, andThen, Came, came, stopped, withSymbol, decode, afterCame}
+use Rattle.taking.specs.Steps.{Steps, sets, takes, refuses, marks, within16, andThen, Came, came, stopped, withSymbol, decode, afterCame}
 use Rattle.taking.proofs.Taking.{by-test, one-of, There, take-cases, raised-other, raised-same, raised-long}
 
 -- ---- one after the other
@@ -29,6 +29,7 @@ decode-then {A} {B} symbols counts (takes s more) f st =
     refl
     (λ there. decode-then symbols counts (more (symbolOf symbols st s)) f (raised st s))
 decode-then symbols counts (refuses n) f st = refl
+decode-then symbols counts (marks more) f st = decode-then symbols counts (more st) f st
 
 pub then-goes : {A B : Type 0} (symbols counts : List ℕ) (m : Steps A) (f : A → Steps B) (st : State) (a : A) (next : State) → decode symbols counts st m ≡ came a next
     → decode symbols counts st (andThen m f) ≡ decode symbols counts next (f a)
@@ -59,6 +60,7 @@ abbrev pub Ends : {A : Type 0} → (ℕ → Type 0) → (A → Type 0) → Steps
 Ends value end (sets a) = end a
 Ends value end (takes s goOn) = (v : ℕ) → value v → Ends value end (goOn v)
 Ends value end (refuses n) = Unit {0}
+Ends value end (marks goOn) = (here : State) → Ends value end (goOn here)
 
 -- of any symbol
 abbrev pub Any : ℕ → Type 0
@@ -69,17 +71,20 @@ abbrev pub Tells : {A : Type 0} → (ℕ → Type 0) → Steps A → Type 0
 Tells told (sets a) = Unit {0}
 Tells told (takes s goOn) = told usedUp × ((v : ℕ) → Tells told (goOn v))
 Tells told (refuses n) = told n
+Tells told (marks goOn) = (here : State) → Tells told (goOn here)
 
 -- what follows from `end` holds of every end too
 pub ends-as : {A : Type 0} (value : ℕ → Type 0) (end also : A → Type 0) (p : Steps A) → ((a : A) → end a → also a) → Ends value end p → Ends value also p
 ends-as value end also (sets a) f h = f a h
 ends-as value end also (takes s goOn) f h = λ v q. ends-as value end also (goOn v) f (h v q)
 ends-as value end also (refuses n) f h = tt
+ends-as value end also (marks goOn) f h = λ here. ends-as value end also (goOn here) f (h here)
 
 pub tells-as : {A : Type 0} (told also : ℕ → Type 0) (p : Steps A) → ((n : ℕ) → told n → also n) → Tells told p → Tells also p
 tells-as told also (sets a) f h = tt
 tells-as told also (takes s goOn) f h = (f usedUp (h .0), λ v. tells-as told also (goOn v) f (h .1 v))
 tells-as told also (refuses n) f h = f n h
+tells-as told also (marks goOn) f h = λ here. tells-as told also (goOn here) f (h here)
 
 -- one after the other
 pub then-ends : {A B : Type 0} (value : ℕ → Type 0) (end : B → Type 0) (m : Steps A) (f : A → Steps B) → Ends value (λ a. Ends value end (f a)) m → Ends value end (andThen m f)
@@ -87,12 +92,14 @@ unfolding andThen
 then-ends value end (sets a) f h = h
 then-ends value end (takes s more) f h = λ v q. then-ends value end (more v) f (h v q)
 then-ends value end (refuses n) f h = tt
+then-ends value end (marks more) f h = λ here. then-ends value end (more here) f (h here)
 
 pub then-tells : {A B : Type 0} (told : ℕ → Type 0) (m : Steps A) (f : A → Steps B) → Tells told m → ((a : A) → Tells told (f a)) → Tells told (andThen m f)
 unfolding andThen
 then-tells told (sets a) f h k = k a
 then-tells told (takes s more) f h k = (h .0, λ v. then-tells told (more v) f (h .1 v) k)
 then-tells told (refuses n) f h k = h
+then-tells told (marks more) f h k = λ here. then-tells told (more here) f (h here) k
 
 -- a value that must fit 16 bits
 pub fits-ends : {A : Type 0} (value : ℕ → Type 0) (end : A → Type 0) (v : ℕ) (rest : Steps A) → (v ≤ largest16 → Ends value end rest) → Ends value end (within16 v rest)
@@ -155,6 +162,7 @@ module _ (symbols counts : List ℕ) where
       (λ e. let z : _≡_ {A = ℕ} 0 1 = cc in absurd (omega arith))
       (λ there e. follows-on (follows-raised b s there) (decode-follows (goOn (symbolOf symbols b s)) (raised b s) a next e))
   decode-follows (refuses n) b a next = λ e. let z : _≡_ {A = ℕ} 0 1 = cc in absurd (omega arith)
+  decode-follows (marks goOn) b a next = decode-follows (goOn b) b a next
 
   -- a property of every refusal is one of what is refused
   pub decode-tells : {A : Type 0} (told : ℕ → Type 0) (p : Steps A) (b : State) → Tells told p → (n : ℕ) → decode symbols counts b p ≡ stopped n → told n
@@ -166,6 +174,7 @@ module _ (symbols counts : List ℕ) where
       (λ e. let is : usedUp ≡ n = cc in rw (← is) (h .0))
       (λ there. decode-tells told (goOn (symbolOf symbols b s)) (raised b s) (h .1 _) n)
   decode-tells told (refuses m) b h n = λ e. let is : m ≡ n = cc in rw is at h
+  decode-tells told (marks goOn) b h n = decode-tells told (goOn b) b (h b) n
 
   -- a property of every end is one of what they come to
   pub decode-ends : {A : Type 0} (value : ℕ → Type 0) (end : A → Type 0) → ((at : ℕ) → value (getD symbols at 0)) → (p : Steps A) (b : State) → Ends value end p → (a : A) (next : State) → decode symbols counts b p ≡ came a next → end a
@@ -177,3 +186,4 @@ module _ (symbols counts : List ℕ) where
       (λ e. let z : _≡_ {A = ℕ} 0 1 = cc in absurd (omega arith))
       (λ there. decode-ends value end every (goOn (symbolOf symbols b s)) (raised b s) (ends _ (every _)) a next)
   decode-ends value end every (refuses n) b ends a next = λ e. let z : _≡_ {A = ℕ} 0 1 = cc in absurd (omega arith)
+  decode-ends value end every (marks goOn) b ends a next = decode-ends value end every (goOn b) b (ends b) a next

@@ -13,7 +13,7 @@ use Rattle.unit.specs.Pairs.{symbolPlace}
 use Rattle.state.specs.State.{taken, raised}
 use Rattle.state.specs.declared.State.{State}
 use Rattle.taking.specs.Take.{symbolOf}
-use Rattle.taking.specs.Steps.{Steps, sets, takes, refuses, andThen, came, withSymbol, decode}
+use Rattle.taking.specs.Steps.{Steps, sets, takes, refuses, marks, andThen, came, withSymbol, decode}
 use Rattle.taking.specs.Reading.{Took, takenIn, raisedBy, symbolsOf}
 use Rattle.taking.proofs.Taking.{take-cases, raised-other, raised-same, raised-long}
 
@@ -29,6 +29,7 @@ module _ (symbols counts : List ℕ) where
       (λ e. let z : _≡_ {A = ℕ} 0 1 = cc in absurd (omega arith))
       (λ there e. decode-reads (goOn (symbolOf symbols b s)) (raised b s) a next e)
   decode-reads (refuses n) b a next = λ e. let z : _≡_ {A = ℕ} 0 1 = cc in absurd (omega arith)
+  decode-reads (marks goOn) b a next = decode-reads (goOn b) b a next
 
 -- ---- one after the other
 
@@ -42,6 +43,7 @@ taken-then symbols counts (takes s more) f st a middle =
     (λ e. let z : _≡_ {A = ℕ} 0 1 = cc in absurd (omega arith))
     (λ there e. ap (λ (l : List Took). record { row = s; value = symbolOf symbols st s } ∷ l) (taken-then symbols counts (more (symbolOf symbols st s)) f (raised st s) a middle e))
 taken-then symbols counts (refuses n) f st a middle = λ e. let z : _≡_ {A = ℕ} 0 1 = cc in absurd (omega arith)
+taken-then symbols counts (marks more) f st a middle = taken-then symbols counts (more st) f st a middle
 
 -- ---- steps that take nothing
 
@@ -49,18 +51,21 @@ abbrev pub Quiet : {A : Type 0} → Steps A → Type 0
 Quiet (sets a) = Unit {0}
 Quiet (takes s goOn) = ⊥
 Quiet (refuses n) = Unit {0}
+Quiet (marks goOn) = (here : State) → Quiet (goOn here)
 
 pub then-quiet : {A B : Type 0} (m : Steps A) (f : A → Steps B) → Quiet m → ((a : A) → Quiet (f a)) → Quiet (andThen m f)
 unfolding andThen
 then-quiet (sets a) f h k = k a
 then-quiet (takes s more) f h k = absurd h
 then-quiet (refuses n) f h k = tt
+then-quiet (marks more) f h k = λ here. then-quiet (more here) f (h here) k
 
 pub quiet-takes : {A : Type 0} (symbols : List ℕ) (st : State) (p : Steps A) → Quiet p → takenIn symbols st p ≡ []
 unfolding takenIn
 quiet-takes symbols st (sets a) h = refl
 quiet-takes symbols st (takes s goOn) h = absurd h
 quiet-takes symbols st (refuses n) h = refl
+quiet-takes symbols st (marks goOn) h = quiet-takes symbols st (goOn st) (h st)
 
 -- ---- in order, each once
 
@@ -93,3 +98,4 @@ module _ (symbols counts row : List ℕ) (s : ℕ) (counted : getD counts s 0 �
       let other : taken (raised b n) s ≡ taken b s = raised-other b n s (λ w. eqb-false n s q (sym w)) in
       rw q (ap (λ (k : ℕ). take k row ++ symbolsOf s (takenIn symbols (raised b n) (goOn (symbolOf symbols b n)))) (sym other) ∙ on)))
   takes-row (refuses n) b a next h = λ e. let z : _≡_ {A = ℕ} 0 1 = cc in absurd (omega arith)
+  takes-row (marks goOn) b a next h = takes-row (goOn b) b a next h

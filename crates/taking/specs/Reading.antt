@@ -7,7 +7,7 @@ use lib.Dec.{eqb}
 use Rattle.state.specs.State.{raised}
 use Rattle.state.specs.declared.State.{State}
 use Rattle.taking.specs.Take.{symbolOf}
-use Rattle.taking.specs.Steps.{Steps, sets, takes, refuses}
+use Rattle.taking.specs.Steps.{Steps, sets, takes, refuses, marks}
 
 -- a symbol that is taken: its subsequence, and its value
 pub record Took : Type 0 where
@@ -20,6 +20,7 @@ takenIn symbols st (sets a) = []
 takenIn symbols st (takes s goOn) =
     record { row = s; value = symbolOf symbols st s } ∷ takenIn symbols (raised st s) (goOn (symbolOf symbols st s))
 takenIn symbols st (refuses n) = []
+takenIn symbols st (marks goOn) = takenIn symbols st (goOn st)
 
 -- the state with an index one higher for each of them
 unfoldable pub raisedBy : State → List Took → State

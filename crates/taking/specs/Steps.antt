@@ -1,6 +1,7 @@
 -- Steps that take symbols, one after the other, and come to a value or to a refusal: the language of the standard's tables (Table 60) and of a record as a whole.
 -- How to read them: `takes N (λ value. ..)` is value = subsequenceN[j8,N], then j8,N++; `within16 value ..` is Table 30's limit, else refusal 7;
--- `reserved` is refusal 6, where a table has no case; `refuses` is any other refusal; `sets` is what they come to; `andThen` goes on with that.
+-- `reserved` is refusal 6, where a table has no case; `refuses` is any other refusal; `sets` is what they come to; `andThen` goes on with that;
+-- `marks (λ here. ..)` takes nothing and remembers where the next symbols stand.
 -- Assumes nothing.
 use Prim.Native.Nat.{ℕ}
 use mathlib.Core.List.{List}
@@ -18,6 +19,7 @@ pub data Steps (A : Type 0) : Type 0 where
   sets : A → Steps A
   takes : ℕ → (ℕ → Steps A) → Steps A
   refuses : ℕ → Steps A
+  marks : (State → Steps A) → Steps A
 
 -- a value that must have at most 16 bits (Table 30)
 abbrev pub within16 : {A : Type 0} → ℕ → Steps A → Steps A
@@ -32,6 +34,7 @@ unfoldable pub andThen : {A B : Type 0} → Steps A → (A → Steps B) → Step
 andThen (sets a) goOn = goOn a
 andThen (takes s more) goOn = takes s (λ v. andThen (more v) goOn)
 andThen (refuses n) goOn = refuses n
+andThen (marks more) goOn = marks (λ here. andThen (more here) goOn)
 
 -- ---- what they come to
 
@@ -64,6 +67,7 @@ unfoldable pub decode : {A : Type 0} → (symbols counts : List ℕ) → State �
 decode symbols counts st (sets a) = came a st
 decode symbols counts st (takes s goOn) = withSymbol (takeOf symbols counts st s) (λ v next. decode symbols counts next (goOn v))
 decode symbols counts st (refuses n) = stopped n
+decode symbols counts st (marks goOn) = decode symbols counts st (goOn st)
 
 -- what follows what came
 abbrev pub afterCame : {A B : Type 0} → Came A → (A → State → Came B) → Came B
