@@ -1,0 +1,4 @@
+pub mod With
+pub mod TakenLaws
+pub mod WalkLaws
+pub mod MappingLaws

@@ -1,0 +1,2 @@
+pub mod Table62
+pub mod code
