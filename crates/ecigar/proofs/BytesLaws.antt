@@ -22,22 +22,22 @@ use Rattle.ecigar.proofs.PrintLaws.{printed-append, printed-one}
 
 -- ---- operations, as they are printed
 
-bytes-counted : (n sign : ℕ) → sign < 256 → Bytes (counted n sign)
+pub bytes-counted : (n sign : ℕ) → sign < 256 → Bytes (counted n sign)
 unfolding decimal
 bytes-counted n sign h = bytes-append (decimalF (suc n) n) (sign ∷ []) (bytes-digits (suc n) n) (bytes-one sign h)
 
 -- what is printed of operations is bytes
-abbrev Prints : List Operation → Type 0
+abbrev pub Prints : List Operation → Type 0
 Prints os = Bytes (printAll os)
 
-no-prints : Prints []
+pub no-prints : Prints []
 unfolding printAll Bytes
 no-prints = tt
 
-one-prints : (o : Operation) → Bytes (print o) → Prints (o ∷ [])
+pub one-prints : (o : Operation) → Bytes (print o) → Prints (o ∷ [])
 one-prints o h = rw (printed-one o) h
 
-both-print : (os ps : List Operation) → Prints os → Prints ps → Prints (os ++ ps)
+pub both-print : (os ps : List Operation) → Prints os → Prints ps → Prints (os ++ ps)
 both-print os ps h k = rw (printed-append os ps) (bytes-append (printAll os) (printAll ps) h k)
 
 bytes-bracketed : (left n right : ℕ) → left < 256 → right < 256 → Bytes (left ∷ counted n right)
@@ -62,13 +62,13 @@ unfolding mark
 mark-prints alphabet e =
     one-of Prints (eqb (e .kind) substitution) _ _ (one-prints (substituted (letterOf alphabet (e .symbol))) (bytes-one _ (letter-byte alphabet (e .symbol)))) no-prints
 
-operations-print : (alphabet mapped : ℕ) (w : Walk) (es : List Edit) → Prints (operationsFrom alphabet mapped w es)
+pub operations-print : (alphabet mapped : ℕ) (w : Walk) (es : List Edit) → Prints (operationsFrom alphabet mapped w es)
 unfolding operationsFrom ending
 operations-print alphabet mapped w [] = both-print (openRun w) _ (closed-prints w) (matches-print (mapped - w .next))
 operations-print alphabet mapped w (e ∷ es) =
     both-print (gap w e ++ mark alphabet e) _ (both-print (gap w e) _ (gap-prints w e) (mark-prints alphabet e)) (operations-print alphabet mapped (past w e) es)
 
-clip-prints : (soft hard : ℕ) → Prints (clip soft hard)
+pub clip-prints : (soft hard : ℕ) → Prints (clip soft hard)
 unfolding clip
 clip-prints soft hard =
     one-of Prints (not (eqb soft 0)) _ _ (one-prints (softClipped soft) (bytes-bracketed _ soft _ (lit< tt) (lit< tt)))

@@ -1,13 +1,13 @@
 -- The laws of the check: each turn of its loop, the bounds that hold on the way, and what an accepted list of edits meets.
 -- Assumes nothing.
-use mathlib.Core.Path.{_≡_, ap, _∙_}
+use mathlib.Core.Path.{_≡_, refl, ap, _∙_}
 use mathlib.Core.Bool.{true, false, cond}
 use mathlib.Core.Logic.{inr}
 use mathlib.Core.List.{List, _∷_, _++_}
 use Prim.Native.Nat.{ℕ, zero, suc, _+_, _-_, _*_, _<_, _≤_}
 use native.Mathlib.Omega.{arith}
 use native.Mathlib.Nat.{suc-mul, zero-mul, zero-add, add-zero}
-use borrow.Author.Tests.{ltb-true, ltb-false, eq-eqb, ne-eqb, eqb-true, eqb-false}
+use borrow.Author.Tests.{le-ltb, ltb-true, ltb-false, eq-eqb, ne-eqb, eqb-true, eqb-false}
 use lib.Dec.{ltb, eqb}
 use lib.ListN.{length, length-append}
 use Rattle.refusal.specs.Numbers.{fine, misframed}
@@ -22,9 +22,9 @@ use Rattle.ecigar.specs.declared.check.Tally.{Tally}
 use Rattle.ecigar.specs.declared.check.EditsChecked.{EditsChecked}
 use Rattle.ecigar.specs.declared.check.EditsChecked.the-variants.{Fine, Refused}
 use Rattle.ecigar.specs.Table90.{printAll}
-use Rattle.ecigar.specs.Ecigar.{past, gap, mark, operationsFrom, ecigarOf}
-use Rattle.ecigar.specs.Check.{endsWithin, editsRefusal, answered, editsChecked, checkOf}
-use Rattle.ecigar.specs.code.Tally.{startTally, textBy, tallied, afterLast}
+use Rattle.ecigar.specs.Ecigar.{setOutAt, past, gap, mark, operationsFrom, ecigarOf}
+use Rattle.ecigar.specs.Check.{endsWithin, editsRefusal, answered, pieceChecked, editsChecked, checkOf, checkPiece}
+use Rattle.ecigar.specs.code.Tally.{startTallyAt, textBy, tallied, afterLast}
 use Rattle.ecigar.proofs.PrintLaws.{length-printed}
 use Rattle.ecigar.proofs.WalkLaws.{Open, length-mark, text-on, text-end, past-next, past-run, past-open, edit-most}
 
@@ -43,10 +43,10 @@ checkedFrom class alphabet frame mapped k at t =
     (t .taken + takenFrom mapped (t .walk .next) (editsAt class alphabet frame k at))
     (t .text + length (printAll (operationsFrom alphabet mapped (t .walk) (editsAt class alphabet frame k at))))
 
-pub check-start : (class alphabet : ℕ) (frame : List ℕ) (mapped k at : ℕ) (t : Tally) → t ≡ startTally
-    → checkedFrom class alphabet frame mapped k at t ≡ editsChecked class alphabet frame at k mapped
-unfolding checkedFrom editsChecked ecigarOf
-check-start class alphabet frame mapped k at t q = rw q (simp zero-add)
+pub check-start : (class alphabet : ℕ) (frame : List ℕ) (mapped from k at : ℕ) (t : Tally) → t ≡ startTallyAt from
+    → checkedFrom class alphabet frame mapped k at t ≡ pieceChecked class alphabet frame from at k mapped
+unfolding checkedFrom
+check-start class alphabet frame mapped from k at t q = rw q (simp zero-add)
 
 refusals-on : (class alphabet : ℕ) (frame : List ℕ) (mapped next k at : ℕ) → 0 < k → editsRefusal class alphabet frame mapped next k at
     ≡ cond (endsWithin frame at (widthOf class)) misframed
@@ -155,7 +155,7 @@ pub record IsFine (class alphabet : ℕ) (frame : List ℕ) (at count mapped pos
 
 pub checked-fine : (class alphabet : ℕ) (frame : List ℕ) (at count mapped taken text : ℕ) → checkOf class alphabet frame at count mapped ≡ Fine taken text
     → IsFine class alphabet frame at count mapped taken text
-unfolding checkOf editsChecked answered
+unfolding checkOf editsChecked answered ecigarOf
 checked-fine class alphabet frame at count mapped taken text q =
     by-test (ltb mostEdits count) (λ a. never (simp a at q))
     (λ a. by-test (ltb mostRead mapped) (λ b. never (simp (a, b) at q))
@@ -168,6 +168,26 @@ checked-fine class alphabet frame at count mapped taken text q =
   where
     never : {P : Type 0} {n : ℕ} → Refused n ≡ Fine taken text → P
     never e = absurd (let z : _≡_ {A = ℕ} 0 1 = cc in omega arith)
+
+-- what is accepted where it stands, and stands in the frame, is not refused
+sound-fine : (class alphabet : ℕ) (frame : List ℕ) (mapped next k at : ℕ) → at + k * widthOf class ≤ length frame → Sound mapped (sizeOf alphabet) next (editsAt class alphabet frame k at)
+    → editsRefusal class alphabet frame mapped next k at ≡ fine
+unfolding editsRefusal Sound editsAt
+sound-fine class alphabet frame mapped next zero at h s = refl
+sound-fine class alphabet frame mapped next (suc k) at h s =
+    let wide = suc-mul k (widthOf class) in
+    rw (le-ltb (length frame) (at + widthOf class) (omega arith), eq-eqb _ _ (s .0))
+    (sound-fine class alphabet frame mapped (nextOffset (editAt class alphabet frame at)) k (at + widthOf class) (omega arith) (s .1))
+
+-- so each piece of an accepted read is accepted
+pub piece-checked : (class alphabet : ℕ) (frame : List ℕ) (from at count until : ℕ) → count ≤ mostEdits → until ≤ mostRead → from ≤ until
+    → at + count * widthOf class ≤ length frame
+    → Sound until (sizeOf alphabet) from (editsAt class alphabet frame count at)
+    → checkPiece class alphabet frame from at count until
+    ≡ Fine (takenFrom until from (editsAt class alphabet frame count at)) (length (printAll (operationsFrom alphabet until (setOutAt from) (editsAt class alphabet frame count at))))
+unfolding checkPiece answered
+piece-checked class alphabet frame from at count until few short order framed sound =
+    simp (le-ltb _ _ few, le-ltb _ _ short, le-ltb _ _ order, sound-fine class alphabet frame until from count at framed sound)
 
 -- where there is an edit, the frame has them all
 pub edits-inside : (class alphabet : ℕ) (frame : List ℕ) (at count mapped taken text : ℕ) → checkOf class alphabet frame at count mapped ≡ Fine taken text → 0 < count → at + count * widthOf class ≤ length frame

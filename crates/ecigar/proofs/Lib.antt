@@ -8,4 +8,6 @@ pub mod Table92Laws
 pub mod OperationLaws
 pub mod RefusalLaws
 pub mod BytesLaws
+pub mod SplicedLaws
+pub mod Table94Laws
 pub mod Unique

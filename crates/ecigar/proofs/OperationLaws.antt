@@ -6,7 +6,7 @@ use mathlib.Core.Logic.{inl, inr, ⊎-elim}
 use mathlib.Core.List.{List, [], _∷_, _++_}
 use Prim.Native.Nat.{ℕ, _+_, _-_, _*_, _^_, _<_, _≤_}
 use native.Mathlib.Omega.{arith}
-use native.Mathlib.Nat.{zero-add, add-zero, add-assoc}
+use native.Mathlib.Nat.{zero-add, add-zero, add-assoc, sub-zero}
 use borrow.Author.Tests.{eq-eqb, ne-eqb, eqb-true, eqb-false}
 use lib.Dec.{eqb}
 use lib.ListN.{length, length-append}
@@ -23,7 +23,7 @@ use Rattle.ecigar.specs.declared.walk.Walk.{Walk}
 use Rattle.ecigar.specs.declared.check.EditsChecked.the-variants.{Fine}
 use Rattle.ecigar.specs.Check.{checkOf}
 use Rattle.ecigar.specs.Table90.{Operation, matched, substituted, inserted, deleted, roundClose, squareClose, printAll, movesRead, movesReference, total, AllPositive}
-use Rattle.ecigar.specs.Ecigar.{setOut, joinsRun, past, matches, openRun, gap, mark, ending, operationsFrom, operationsOf, ecigarOf, clip, clipsLength, leftClip, rightClip, blockOperations, ecigarText}
+use Rattle.ecigar.specs.Ecigar.{setOutAt, setOut, joinsRun, past, matches, openRun, gap, mark, ending, operationsFrom, operationsOf, ecigarOf, clip, clipsLength, leftClip, rightClip, blockOperations, ecigarText}
 use Rattle.ecigar.proofs.PrintLaws.{length-counted, length-printed}
 use Rattle.ecigar.proofs.WalkLaws.{Open, length-mark, ending-both, text-on, text-end, past-next, past-kind, past-open, past-joined, past-apart, joins-true, matches-most, closed-most, edit-most, clip-soft, clip-hard, clip-none}
 use Rattle.ecigar.proofs.CheckLaws.{checked-fine}
@@ -31,7 +31,7 @@ use Rattle.ecigar.proofs.TextLaws.{length-ecigarText}
 
 -- ---- no count is 0
 
-positive-append : (xs ys : List Operation) → AllPositive xs → AllPositive ys → AllPositive (xs ++ ys)
+pub positive-append : (xs ys : List Operation) → AllPositive xs → AllPositive ys → AllPositive (xs ++ ys)
 unfolding AllPositive
 positive-append [] ys p q = q
 positive-append (x ∷ xs) ys p q = (p .0, positive-append xs ys (p .1) q)
@@ -63,7 +63,7 @@ positive-from alphabet mapped w (e ∷ es) o =
     positive-append (gap w e ++ mark alphabet e) (operationsFrom alphabet mapped (past w e) es) (positive-edit alphabet w e o)
     (positive-from alphabet mapped (past w e) es (inr (past-open w e refl)))
 
-positive-clip : (soft hard : ℕ) → AllPositive (clip soft hard)
+pub positive-clip : (soft hard : ℕ) → AllPositive (clip soft hard)
 unfolding AllPositive clip
 positive-clip soft hard =
     by-test (eqb soft 0)
@@ -215,30 +215,36 @@ own-reference e =
     (λ a. let z = eqb-true (e .kind) substitution a in rw (a, ne-eqb (e .kind) insertion (λ y. omega arith)))
     (λ a. rw a)
 
-module _ (alphabet mapped symbols : ℕ) (es : List Edit) (sound : Sound mapped symbols 0 es) where
-  pub edits-read : total movesRead (operationsOf alphabet mapped es) ≡ mapped
-  edits-read =
+module _ (alphabet start mapped symbols : ℕ) (es : List Edit) (sound : Sound mapped symbols start es) where
+  pub piece-read : total movesRead (operationsFrom alphabet mapped (setOutAt start) es) ≡ mapped - start
+  piece-read =
       total-from movesRead read-moves alphabet mapped symbols (λ next rest. mapped - next) (λ next. refl)
-      (λ next e rest a. omega (arith, a .order, a .inside, own-read e (a .kind))) setOut es sound
-      ∙ rw (total-closed-letter movesRead read-moves setOut refl) (omega arith)
+      (λ next e rest a. omega (arith, a .order, a .inside, own-read e (a .kind))) (setOutAt start) es sound
+      ∙ rw (total-closed-letter movesRead read-moves (setOutAt start) refl) (omega arith)
 
-  pub edits-reference : total movesReference (operationsOf alphabet mapped es) ≡ takenFrom mapped 0 es
+  pub piece-reference : total movesReference (operationsFrom alphabet mapped (setOutAt start) es) ≡ takenFrom mapped start es
   unfolding takenFrom
-  edits-reference =
+  piece-reference =
       total-from movesReference reference-moves alphabet mapped symbols (λ next rest. takenFrom mapped next rest) (λ next. refl)
-      (λ next e rest a. omega (arith, own-reference e)) setOut es sound
-      ∙ rw (total-closed-letter movesReference reference-moves setOut refl) (omega arith)
+      (λ next e rest a. omega (arith, own-reference e)) (setOutAt start) es sound
+      ∙ rw (total-closed-letter movesReference reference-moves (setOutAt start) refl) (omega arith)
+
+pub edits-read : (alphabet mapped symbols : ℕ) (es : List Edit) → Sound mapped symbols 0 es → total movesRead (operationsOf alphabet mapped es) ≡ mapped
+edits-read alphabet mapped symbols es sound = piece-read alphabet 0 mapped symbols es sound ∙ sub-zero mapped
+
+pub edits-reference : (alphabet mapped symbols : ℕ) (es : List Edit) → Sound mapped symbols 0 es → total movesReference (operationsOf alphabet mapped es) ≡ takenFrom mapped 0 es
+edits-reference alphabet mapped symbols es sound = piece-reference alphabet 0 mapped symbols es sound
 
 -- ---- the whole segment
 
-clip-read : (soft hard : ℕ) → total movesRead (clip soft hard) ≡ soft
+pub clip-read : (soft hard : ℕ) → total movesRead (clip soft hard) ≡ soft
 unfolding total clip
 clip-read soft hard =
     by-test (eqb soft 0)
     (λ a. by-test (eqb hard 0) (λ b. rw (a, b) (sym (eqb-true soft 0 a))) (λ b. rw (a, b) (sym (eqb-true soft 0 a))))
     (λ a. rw a (add-zero soft))
 
-clip-reference : (soft hard : ℕ) → total movesReference (clip soft hard) ≡ 0
+pub clip-reference : (soft hard : ℕ) → total movesReference (clip soft hard) ≡ 0
 unfolding total clip
 clip-reference soft hard =
     by-test (eqb soft 0) (λ a. by-test (eqb hard 0) (λ b. rw (a, b)) (λ b. rw (a, b))) (λ a. rw a)
@@ -299,9 +305,13 @@ from-most alphabet mapped symbols w (e ∷ es) o n s =
       from-most alphabet mapped symbols (past w e) es (inr (past-open w e refl)) (rw q (a .inside)) (rw q (sound-tail mapped symbols (w .next) e es s)),
     )
 
+pub piece-most : (alphabet start mapped symbols : ℕ) (es : List Edit) → start ≤ mapped → Sound mapped symbols start es
+    → length (printAll (operationsFrom alphabet mapped (setOutAt start) es)) + 2 * start ≤ 2 * mapped + 2 * length es
+piece-most alphabet start mapped symbols es h s = omega (arith, from-most alphabet mapped symbols (setOutAt start) es (inl refl) h s)
+
 pub edits-most : (alphabet mapped symbols : ℕ) (es : List Edit) → Sound mapped symbols 0 es → length (ecigarOf alphabet mapped es) ≤ 2 * mapped + 2 * length es
 unfolding ecigarOf
-edits-most alphabet mapped symbols es s = omega (arith, from-most alphabet mapped symbols setOut es (inl refl) (omega arith) s)
+edits-most alphabet mapped symbols es s = omega (arith, piece-most alphabet 0 mapped symbols es (omega arith) s)
 
 -- a bracketed clip of at most five digits
 pub clip-most : (soft hard : ℕ) → soft < 2 ^ 16 → hard < 2 ^ 16 → length (printAll (clip soft hard)) ≤ 7
@@ -334,7 +344,7 @@ text-most class alphabet frame at count mapped taken text q =
     let f = checked-fine class alphabet frame at count mapped taken text q in
     omega (arith, f .text, f .few, f .short, edits-most alphabet mapped (sizeOf alphabet) (editsAt class alphabet frame count at) (f .sound), length-edits class alphabet frame count at)
 
--- no E-CIGAR is longer than 4,014 characters (document 01)
+-- no E-CIGAR without splices is longer than the limit
 pub ecigar-most : (class alphabet : ℕ) (frame : List ℕ) (s : Block) → s .edits ≤ mostEdits → s .length ≤ mostRead → ClipsFit (s .clips)
     → Sound (mappedLength (s .length) (s .clips)) (sizeOf alphabet) 0 (blockEdits class alphabet frame s)
     → length (ecigarText class alphabet frame s) ≤ mostEcigar

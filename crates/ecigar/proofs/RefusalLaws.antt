@@ -10,7 +10,7 @@ use Rattle.alphabet.specs.Table35.{sizeOf}
 use Rattle.edits.specs.Lengths.{mostRead, mostEdits}
 use Rattle.edits.specs.Edits.{widthOf, editAt, nextOffset, editRefusal}
 use Rattle.edits.proofs.RefusalLaws.{edit-early}
-use Rattle.ecigar.specs.Check.{endsWithin, editsRefusal, answered, editsChecked, checkOf}
+use Rattle.ecigar.specs.Check.{endsWithin, editsRefusal, answered, pieceChecked, editsChecked, checkOf, checkPiece}
 use Rattle.ecigar.specs.declared.check.EditsChecked.{EditsChecked}
 use Rattle.ecigar.specs.declared.check.EditsChecked.the-variants.{Fine, Refused}
 
@@ -27,9 +27,21 @@ edits-early class alphabet frame mapped next (suc k) at =
     one-of FineOrEarly (endsWithin frame at (widthOf class)) _ _ (fine-or-early tt)
     (one-of FineOrEarly (eqb (editRefusal mapped (sizeOf alphabet) next e) fine) _ _ (edits-early class alphabet frame mapped (nextOffset e) k (at + widthOf class)) own)
 
+piece-early : (class alphabet : ℕ) (frame : List ℕ) (from at count until : ℕ) → EarlyEdits (pieceChecked class alphabet frame from at count until)
+unfolding answered
+piece-early class alphabet frame from at count until =
+    by-number EarlyEdits (editsRefusal class alphabet frame until from count at) _ _ (edits-early class alphabet frame until from count at) tt (λ h. h)
+
 pub check-early : (class alphabet : ℕ) (frame : List ℕ) (at count mapped : ℕ) → EarlyEdits (checkOf class alphabet frame at count mapped)
-unfolding checkOf editsChecked answered
+unfolding checkOf editsChecked
 check-early class alphabet frame at count mapped =
     one-of EarlyEdits (ltb mostEdits count) _ _ (early tt)
     (one-of EarlyEdits (ltb mostRead mapped) _ _ (early tt)
-    (by-number EarlyEdits (editsRefusal class alphabet frame mapped 0 count at) _ _ (edits-early class alphabet frame mapped 0 count at) tt (λ h. h)))
+    (piece-early class alphabet frame 0 at count mapped))
+
+pub check-piece-early : (class alphabet : ℕ) (frame : List ℕ) (from at count until : ℕ) → EarlyEdits (checkPiece class alphabet frame from at count until)
+unfolding checkPiece
+check-piece-early class alphabet frame from at count until =
+    one-of EarlyEdits (ltb mostEdits count) _ _ (early tt)
+    (one-of EarlyEdits (ltb mostRead until) _ _ (early tt)
+    (one-of EarlyEdits (ltb until from) _ _ (early tt) (piece-early class alphabet frame from at count until)))

@@ -20,7 +20,7 @@ use Rattle.ecigar.specs.declared.check.EditsChecked.the-variants.{Fine}
 use Rattle.ecigar.specs.Table90.{printAll}
 use Rattle.ecigar.specs.Ecigar.{setOut, past, matches, openRun, gap, mark, ending, operationsFrom, ecigarOf}
 use Rattle.ecigar.specs.Check.{endsWithin}
-use Rattle.ecigar.specs.code.Tally.{startTally, textBy, tallied, afterLast}
+use Rattle.ecigar.specs.code.Tally.{startTallyAt, textBy, tallied, afterLast}
 use Rattle.ecigar.proofs.PrintLaws.{printed-append}
 use Rattle.ecigar.proofs.WalkLaws.{closed-none, gap-apart, apart-letter, mark-letter, ending-both, past-next, past-kind, matches-most}
 use Rattle.ecigar.proofs.CheckLaws.{checkedFrom, check-on, check-end}
@@ -60,10 +60,10 @@ pub record SubstitutionsChecked (class alphabet : ℕ) (frame : List ℕ) (mappe
   pub short : text ≤ 2 * next
   pub rest : checkedFrom class alphabet frame mapped k at tally ≡ whole
 
-pub substitutions-start : (class alphabet : ℕ) (frame : List ℕ) (mapped k at : ℕ) {whole : EditsChecked} → checkedFrom class alphabet frame mapped k at startTally ≡ whole
+pub substitutions-start : (class alphabet : ℕ) (frame : List ℕ) (mapped k at : ℕ) {whole : EditsChecked} → checkedFrom class alphabet frame mapped k at (startTallyAt 0) ≡ whole
     → SubstitutionsChecked class alphabet frame mapped k at 0 0 whole
 substitutions-start class alphabet frame mapped k at q =
-    record { tally = startTally; plain = refl; there = refl; taken = refl; written = refl; inside = omega arith; short = omega arith; rest = q }
+    record { tally = startTallyAt 0; plain = refl; there = refl; taken = refl; written = refl; inside = omega arith; short = omega arith; rest = q }
 
 module _ (class alphabet : ℕ) (frame : List ℕ) (mapped k at step symbols : ℕ) (wide : step ≡ widthOf class) (size : symbols ≡ sizeOf alphabet) (more : 0 < k)
     (only : substitutesOnly class ≡ true) (e : Edit) (it : e ≡ editAt class alphabet frame at) (room : false ≡ endsWithin frame at step) where

@@ -48,9 +48,17 @@ each-m class alphabet frame (suc k) at h =
     more (editAt class alphabet frame at) (simp (ne-eqb class classN (λ z. omega arith), eq-eqb class classM h)) (each-m class alphabet frame k (at + widthOf class) h)
 
 -- Classes I or HM
-is-indel : (class : ℕ) → classI ≤ class → class ≤ classHM → (eqb class classI || eqb class classHM) ≡ true
+pub is-indel : (class : ℕ) → classI ≤ class → class ≤ classHM → (eqb class classI || eqb class classHM) ≡ true
 is-indel class l h =
     by-test (eqb class classI) (λ t. simp t) (λ t. let z = eqb-false class classI t in let q : class ≡ classHM = omega arith in simp (t, eq-eqb class classHM q))
+
+-- Table 93 of Classes I or HM, for any edits that are accepted
+pub table93-edits : (class alphabet len : ℕ) (es : List Edit) → Sound len (sizeOf alphabet) 0 es → classI ≤ class → class ≤ classHM
+    → decodeECigarMismatches class len (length es) (offsetsOf es) (lettersIn alphabet es) (typesOf es) ≡ ecigarOf alphabet len es
+unfolding decodeECigarMismatches ecigarOf
+table93-edits class alphabet len es sound l h =
+    simp (ne-eqb class classP (λ z. omega arith), ne-eqb class classN (λ z. omega arith), ne-eqb class classM (λ z. omega arith), is-indel class l h)
+    (indel-text alphabet len (sizeOf alphabet) es sound)
 
 -- ---- Table 93, for the edits that a frame has
 
@@ -86,15 +94,11 @@ module _ (class alphabet : ℕ) (frame : List ℕ) (len k at : ℕ) where
         (λ i e rest q p. item-here (λ (x : Edit). letterOf alphabet (x .symbol)) es i e rest q) (each-m class alphabet frame k at h) sound)
 
     table93-i : classI ≤ class → class ≤ classHM → decodeECigarMismatches class len k (offsetsOf es) (lettersIn alphabet es) (typesOf es) ≡ ecigarOf alphabet len es
-    unfolding decodeECigarMismatches ecigarOf
-    table93-i l h =
-        many (lettersIn alphabet es) (typesOf es)
-        ∙ simp (ne-eqb class classP (λ z. omega arith), ne-eqb class classN (λ z. omega arith), ne-eqb class classM (λ z. omega arith), is-indel class l h)
-        (indel-text alphabet len (sizeOf alphabet) es sound)
+    table93-i l h = many (lettersIn alphabet es) (typesOf es) ∙ table93-edits class alphabet len es sound l h
 
 -- ---- the clips
 
-left-text : (soft hard : ℕ) (softClips ecigar : List ℕ) → length softClips ≡ soft → leftClipped softClips hard ecigar ≡ printAll (clip soft hard) ++ ecigar
+pub left-text : (soft hard : ℕ) (softClips ecigar : List ℕ) → length softClips ≡ soft → leftClipped softClips hard ecigar ≡ printAll (clip soft hard) ++ ecigar
 unfolding leftClipped
 left-text soft hard softClips ecigar q =
     rw q
@@ -104,7 +108,7 @@ left-text soft hard softClips ecigar q =
     (λ b. simp (a, b, clip-hard soft hard (eqb-true _ _ a) (eqb-false _ _ b))))
     (λ a. simp (a, clip-soft soft hard (eqb-false _ _ a))))
 
-right-text : (soft hard : ℕ) (softClips ecigar : List ℕ) → length softClips ≡ soft → rightClipped softClips hard ecigar ≡ ecigar ++ printAll (clip soft hard)
+pub right-text : (soft hard : ℕ) (softClips ecigar : List ℕ) → length softClips ≡ soft → rightClipped softClips hard ecigar ≡ ecigar ++ printAll (clip soft hard)
 unfolding rightClipped
 right-text soft hard softClips ecigar q =
     rw q

@@ -15,7 +15,7 @@ use Rattle.edits.specs.declared.Block.{Block}
 use Rattle.edits.proofs.EditLaws.{edits-none, list-on, framed-on, accepted-on, sound-on}
 use Rattle.ecigar.specs.declared.walk.Walk.{Walk}
 use Rattle.ecigar.specs.Table90.{printAll}
-use Rattle.ecigar.specs.Ecigar.{setOut, past, gap, mark, ending, operationsFrom, operationsOf, ecigarOf, clipsLength, leftClip, rightClip, blockOperations, ecigarText}
+use Rattle.ecigar.specs.Ecigar.{setOutAt, past, gap, mark, ending, operationsFrom, operationsOf, ecigarOf, clipsLength, leftClip, rightClip, blockOperations, ecigarText}
 use Rattle.ecigar.specs.Check.{checkOf}
 use Rattle.ecigar.specs.declared.check.EditsChecked.the-variants.{Fine}
 use Rattle.ecigar.proofs.PrintLaws.{printed-append}
@@ -32,11 +32,10 @@ pub record Writing (class alphabet : ℕ) (frame : List ℕ) (mapped k at : ℕ)
   pub rest : Rest l p (printAll (operationsFrom alphabet mapped w (editsAt class alphabet frame k at))) l₀ p₀ whole
 
 -- before the first
-pub writing-start : (class alphabet : ℕ) (frame : List ℕ) (mapped k at : ℕ) (l : List ℕ) (p : ℕ) → at + k * widthOf class ≤ length frame
-    → Sound mapped (sizeOf alphabet) 0 (editsAt class alphabet frame k at)
-    → Writing class alphabet frame mapped k at setOut l p l p (ecigarOf alphabet mapped (editsAt class alphabet frame k at))
-unfolding ecigarOf
-writing-start class alphabet frame mapped k at l p h s = record { next = omega arith; framed = h; sound = s; rest = rest-start _ _ _ }
+pub writing-start : (class alphabet : ℕ) (frame : List ℕ) (mapped start k at : ℕ) (l : List ℕ) (p : ℕ) → start ≤ mapped → at + k * widthOf class ≤ length frame
+    → Sound mapped (sizeOf alphabet) start (editsAt class alphabet frame k at)
+    → Writing class alphabet frame mapped k at (setOutAt start) l p l p (printAll (operationsFrom alphabet mapped (setOutAt start) (editsAt class alphabet frame k at)))
+writing-start class alphabet frame mapped start k at l p g h s = record { next = g; framed = h; sound = s; rest = rest-start _ _ _ }
 
 module _ (class alphabet : ℕ) (frame : List ℕ) (mapped k at step : ℕ) (e : Edit) (wide : step ≡ widthOf class) (it : e ≡ editAt class alphabet frame at) (more : 0 < k) where
   ecigar-on : (w : Walk) → printAll (operationsFrom alphabet mapped w (editsAt class alphabet frame k at))

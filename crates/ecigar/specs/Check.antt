@@ -5,12 +5,13 @@ use mathlib.Core.Bool.{Bool, cond}
 use mathlib.Core.List.{List}
 use lib.Dec.{ltb, eqb}
 use lib.ListN.{length}
-use Rattle.refusal.specs.Numbers.{fine, firstRefusal, misframed, lengthOut, fieldOut}
+use Rattle.refusal.specs.Numbers.{fine, firstRefusal, misframed, lengthOut, fieldOut, offsetOut}
 use Rattle.alphabet.specs.Table35.{sizeOf}
 use Rattle.edits.specs.Edits.{widthOf, editAt, editsAt, nextOffset, editRefusal, takenFrom}
 use Rattle.edits.specs.Lengths.{mostRead, mostEdits}
 use Rattle.edits.specs.declared.edit.Edit.{Edit}
-use Rattle.ecigar.specs.Ecigar.{ecigarOf}
+use Rattle.ecigar.specs.Table90.{printAll}
+use Rattle.ecigar.specs.Ecigar.{setOutAt, operationsFrom}
 use Rattle.ecigar.specs.declared.check.EditsChecked.{EditsChecked}
 use Rattle.ecigar.specs.declared.check.EditsChecked.the-variants.{Fine, Refused}
 
@@ -36,13 +37,17 @@ editsRefusal class alphabet frame mapped next (suc k) at =
 unfoldable pub answered : (number taken text : ℕ) → EditsChecked
 answered number taken text = cond (eqb number fine) (Fine taken text) (Refused number)
 
--- so many edits from a place of the frame on
-unfoldable pub editsChecked : (class alphabet : ℕ) (frame : List ℕ) (at count mapped : ℕ) → EditsChecked
-editsChecked class alphabet frame at count mapped =
+-- so many edits from a place of the frame on, of a run whose bases have the offsets from `from` on, up to and without `until`
+abbrev pub pieceChecked : (class alphabet : ℕ) (frame : List ℕ) (from at count until : ℕ) → EditsChecked
+pieceChecked class alphabet frame from at count until =
     answered
-    (editsRefusal class alphabet frame mapped 0 count at)
-    (takenFrom mapped 0 (editsAt class alphabet frame count at))
-    (length (ecigarOf alphabet mapped (editsAt class alphabet frame count at)))
+    (editsRefusal class alphabet frame until from count at)
+    (takenFrom until from (editsAt class alphabet frame count at))
+    (length (printAll (operationsFrom alphabet until (setOutAt from) (editsAt class alphabet frame count at))))
+
+-- the same of a read that is in one piece
+unfoldable pub editsChecked : (class alphabet : ℕ) (frame : List ℕ) (at count mapped : ℕ) → EditsChecked
+editsChecked class alphabet frame at count mapped = pieceChecked class alphabet frame 0 at count mapped
 
 -- the whole check: the count of edits before the edits (11), and no read is longer than the longest (8).
 -- In a record neither is met here: the block's own fields are refused before (block's `countIn`, `lengthIn`)
@@ -51,3 +56,11 @@ checkOf class alphabet frame at count mapped =
     cond (ltb mostEdits count) (Refused fieldOut)
     (cond (ltb mostRead mapped) (Refused lengthOut)
     (editsChecked class alphabet frame at count mapped))
+
+-- the check of one piece of a read: the same two tests, and it ends no earlier than it begins (12). A piece of an accepted read meets all three: `piece-checked`
+unfoldable pub checkPiece : (class alphabet : ℕ) (frame : List ℕ) (from at count until : ℕ) → EditsChecked
+checkPiece class alphabet frame from at count until =
+    cond (ltb mostEdits count) (Refused fieldOut)
+    (cond (ltb mostRead until) (Refused lengthOut)
+    (cond (ltb until from) (Refused offsetOut)
+    (pieceChecked class alphabet frame from at count until)))

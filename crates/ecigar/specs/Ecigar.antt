@@ -17,9 +17,13 @@ use Rattle.edits.specs.declared.Block.{Block}
 use Rattle.ecigar.specs.declared.walk.Walk.{Walk}
 use Rattle.ecigar.specs.Table90.{Operation, matched, substituted, inserted, deleted, softClipped, hardClipped, printAll}
 
--- before the first edit: previousOffset is 0 and no run is open
+-- before the first edit of a run whose first base stands at this offset: previousOffset is that, and no run is open
+abbrev pub setOutAt : (start : ℕ) → Walk
+setOutAt start = record { next = start; kind = substitution; run = 0 }
+
+-- where a read that is in one piece begins
 abbrev pub setOut : Walk
-setOut = record { next = 0; kind = substitution; run = 0 }
+setOut = setOutAt 0
 
 -- neighbouring insertions merge when each offset is one more than the last, neighbouring deletions when offsets are equal (document 01)
 unfoldable pub joinsRun : Walk → Edit → Bool

@@ -21,8 +21,8 @@ ghost use Rattle.edits.specs.code.Runs.{substitutesOnly};
 ghost use Rattle.edits.specs.Lengths.{mostRead, mostEdits, mostEcigar};
 ghost use Rattle.ecigar.specs.Table90.{printAll};
 ghost use Rattle.ecigar.specs.Ecigar.{openRun, matches, gap};
-ghost use Rattle.ecigar.specs.Check.{endsWithin, editsChecked, checkOf};
-ghost use Rattle.ecigar.specs.code.Tally.{startTally, textBy, tallied, afterLast};
+ghost use Rattle.ecigar.specs.Check.{endsWithin, pieceChecked, editsChecked, checkOf, checkPiece};
+ghost use Rattle.ecigar.specs.code.Tally.{startTallyAt, textBy, tallied, afterLast};
 
 // What the check keeps from edit to edit: the walk, the reference positions taken, and the length of the text so far.
 pub struct Tally {
@@ -38,10 +38,10 @@ pub enum EditsChecked {
 }
 
 impl Tally {
-    pub(crate) fn start() -> Tally
-        ensures { λ r. ⌜ r ≡ startTally ⌝ }
+    pub(crate) fn start_at(from: u32) -> Tally
+        ensures { λ r. ⌜ r ≡ startTallyAt from ⌝ }
     {
-        let walk = Walk::start();
+        let walk = Walk::start_at(from);
         Tally {
             walk,
             taken: 0,
@@ -156,14 +156,41 @@ fn ends_within(frame: &[u8], at: usize, bytes: usize) -> bool
     false
 }
 
-// Each edit where it stands: complete, then accepted.
-fn check_edits(frame: &[u8], class: u32, alphabet: u32, run: Run) -> EditsChecked
-    requires { ⌜ (run .edits ≤ mostEdits) × (run .mapped ≤ mostRead) ⌝ }
-    ensures { λ r. ⌜ r ≡ editsChecked class alphabet (now (frame .entry)) (run .«edits_at») (run .edits) (run .mapped) ⌝ }
+// Each edit where it stands: complete, then accepted. The run's first base stands at offset `from`, and behind its last is `run.mapped`.
+fn check_edits(frame: &[u8], class: u32, alphabet: u32, from: u32, run: Run) -> EditsChecked
+    requires { ⌜ (run .edits ≤ mostEdits) × ((run .mapped ≤ mostRead) × (from ≤ run .mapped)) ⌝ }
+    ensures { λ r. ⌜ r ≡ pieceChecked class alphabet (now (frame .entry)) from (run .«edits_at») (run .edits) (run .mapped) ⌝ }
 {
     let step = width(class);
     let symbols = alphabet::size(alphabet);
-    let mut t = Tally::start();
+    let mut t = Tally::start_at(from);
+    let mut at = run.edits_at;
+    let mut left = run.edits;
+    while 0 < left {
+        if ends_within(frame, at, step) {
+            return EditsChecked::Refused(refusal::MISFRAMED);
+        }
+        let e = edit_at(frame, class, alphabet, at);
+        let w = t.walk;
+        let no = refusal_of(e, w.next, run.mapped, symbols);
+        if no != refusal::FINE {
+            return EditsChecked::Refused(no);
+        }
+        t = take_edit(t, e);
+        at += step;
+        left -= 1;
+    }
+    finish(t, run.mapped)
+}
+
+// The same for a piece of a read: a walk of its own, so that the one above is called from one place (docs/BENCHMARK.md).
+fn check_piece_edits(frame: &[u8], class: u32, alphabet: u32, from: u32, run: Run) -> EditsChecked
+    requires { ⌜ (run .edits ≤ mostEdits) × ((run .mapped ≤ mostRead) × (from ≤ run .mapped)) ⌝ }
+    ensures { λ r. ⌜ r ≡ pieceChecked class alphabet (now (frame .entry)) from (run .«edits_at») (run .edits) (run .mapped) ⌝ }
+{
+    let step = width(class);
+    let symbols = alphabet::size(alphabet);
+    let mut t = Tally::start_at(from);
     let mut at = run.edits_at;
     let mut left = run.edits;
     while 0 < left {
@@ -228,5 +255,21 @@ pub fn check(frame: &[u8], class: u32, alphabet: u32, run: Run) -> EditsChecked
     if substitutes(class) {
         return check_substitutions(frame, class, alphabet, run);
     }
-    check_edits(frame, class, alphabet, run)
+    check_edits(frame, class, alphabet, 0, run)
+}
+
+// The edits of one piece of a read. Offsets count over the whole read, so the piece says from which offset it goes until which.
+pub fn check_piece(frame: &[u8], class: u32, alphabet: u32, from: u32, run: Run) -> EditsChecked
+    ensures { λ r. ⌜ r ≡ checkPiece class alphabet (now (frame .entry)) from (run .«edits_at») (run .edits) (run .mapped) ⌝ }
+{
+    if Block::EDITS < run.edits {
+        return EditsChecked::Refused(refusal::FIELD_OUT);
+    }
+    if Block::READ < run.mapped {
+        return EditsChecked::Refused(refusal::LENGTH_OUT);
+    }
+    if run.mapped < from {
+        return EditsChecked::Refused(refusal::OFFSET_OUT);
+    }
+    check_piece_edits(frame, class, alphabet, from, run)
 }

@@ -33,7 +33,7 @@ pub fn clips_len(clips: Clips) -> u32
 }
 
 // One side, laid as digits.
-pub(crate) fn put_clip(out: &mut [u8], at: usize, soft: u32, hard: u32) -> usize
+pub fn put_clip(out: &mut [u8], at: usize, soft: u32, hard: u32) -> usize
     requires { ⌜ at + 2 * length (printAll (clip soft hard)) ≤ length (now out) ⌝ }
     ensures { λ r. ⌜ Laid (now (out .entry)) (now (out .exit)) at r (printAll (clip soft hard)) ⌝ }
 {

@@ -26,7 +26,7 @@ ghost use Rattle.edits.specs.Edits.{widthOf, editsAt, Sound, blockEdits};
 ghost use Rattle.edits.specs.code.Runs.{substitutesOnly};
 ghost use Rattle.edits.specs.Lengths.{mostEdits, mappedLength};
 ghost use Rattle.ecigar.specs.Table90.{counted, printAll};
-ghost use Rattle.ecigar.specs.Ecigar.{openRun, matches, gap, mark, ending, ecigarOf, ecigarText};
+ghost use Rattle.ecigar.specs.Ecigar.{setOutAt, openRun, matches, gap, mark, ending, operationsFrom, ecigarOf, ecigarText};
 
 // A count and its sign.
 pub(crate) fn put_count(out: &mut [u8], at: usize, n: u32, sign: u8) -> usize
@@ -115,31 +115,32 @@ fn put_ending(out: &mut [u8], at: usize, w: Walk, mapped: u32) -> usize
     put_matches(out, next, mapped - w.next)
 }
 
-// The text of a run's edits, as they stand in the frame.
-fn put_edits(
+// The text of a piece that `check_piece` accepted, without clips: its first base stands at offset `start` of the read, and behind its last is `run.mapped`.
+pub fn write_piece(
     out: &mut [u8],
-    from: usize,
+    at: usize,
     frame: &[u8],
     class: u32,
     alphabet: u32,
+    start: u32,
     run: Run,
 ) -> usize
-    requires { ⌜ (run .edits ≤ mostEdits) × (run .«edits_at» + run .edits * widthOf class ≤ length (now frame)) ⌝ }
-    requires { ⌜ Sound (run .mapped) (sizeOf alphabet) 0 (editsAt class alphabet (now frame) (run .edits) (run .«edits_at»)) ⌝ }
-    requires { ⌜ from + 2 * length (ecigarOf alphabet (run .mapped) (editsAt class alphabet (now frame) (run .edits) (run .«edits_at»))) ≤ length (now out) ⌝ }
-    ensures { λ r. ⌜ Laid (now (out .entry)) (now (out .exit)) from r (ecigarOf alphabet (run .mapped) (editsAt class alphabet (now (frame .entry)) (run .edits) (run .«edits_at»))) ⌝ }
+    requires { ⌜ (start ≤ run .mapped) × ((run .edits ≤ mostEdits) × (run .«edits_at» + run .edits * widthOf class ≤ length (now frame))) ⌝ }
+    requires { ⌜ Sound (run .mapped) (sizeOf alphabet) start (editsAt class alphabet (now frame) (run .edits) (run .«edits_at»)) ⌝ }
+    requires { ⌜ at + 2 * length (printAll (operationsFrom alphabet (run .mapped) (setOutAt start) (editsAt class alphabet (now frame) (run .edits) (run .«edits_at»)))) ≤ length (now out) ⌝ }
+    ensures { λ r. ⌜ Laid (now (out .entry)) (now (out .exit)) at r (printAll (operationsFrom alphabet (run .mapped) (setOutAt start) (editsAt class alphabet (now (frame .entry)) (run .edits) (run .«edits_at»)))) ⌝ }
 {
     let table = alphabet::digits(alphabet);
     let step = width(class);
-    let mut w = Walk::start();
-    let mut next = from;
-    let mut at = run.edits_at;
+    let mut w = Walk::start_at(start);
+    let mut next = at;
+    let mut place = run.edits_at;
     let mut left = run.edits;
     while 0 < left {
-        let e = edit_at(frame, class, alphabet, at);
+        let e = edit_at(frame, class, alphabet, place);
         next = put_edit(out, next, alphabet, &table, w, e);
         w = advance(w, e);
-        at += step;
+        place += step;
         left -= 1;
     }
     put_ending(out, next, w, run.mapped)
@@ -190,7 +191,7 @@ fn put_run(out: &mut [u8], at: usize, frame: &[u8], class: u32, alphabet: u32, r
     if substitutes(class) {
         return put_substitutions(out, at, frame, class, alphabet, run);
     }
-    put_edits(out, at, frame, class, alphabet, run)
+    write_piece(out, at, frame, class, alphabet, 0, run)
 }
 
 // The whole text of a block that `check` accepted: left clip, run, right clip.

@@ -4,7 +4,7 @@ use edits::edit::next_offset;
 ghost use mathlib.Core.Path.{_≡_};
 ghost use Prim.Native.Nat.{_<_};
 ghost use Rattle.edits.specs.Lengths.{mostEdits};
-ghost use Rattle.ecigar.specs.Ecigar.{setOut, joinsRun, past};
+ghost use Rattle.ecigar.specs.Ecigar.{setOutAt, joinsRun, past};
 
 // Table 93's previousOffset, and the run of insertions or deletions that is open: its type, and how many edits it has.
 pub struct Walk {
@@ -14,12 +14,12 @@ pub struct Walk {
 }
 
 impl Walk {
-    // Before the first edit.
-    pub(crate) fn start() -> Walk
-        ensures { λ r. ⌜ r ≡ setOut ⌝ }
+    // Before the first edit of a run whose first base stands at this offset.
+    pub(crate) fn start_at(start: u32) -> Walk
+        ensures { λ r. ⌜ r ≡ setOutAt start ⌝ }
     {
         Walk {
-            next: 0,
+            next: start,
             kind: Edit::SUBSTITUTION,
             run: 0,
         }

@@ -12,11 +12,11 @@ use Rattle.ecigar.specs.declared.check.Tally.{Tally}
 use Rattle.ecigar.specs.declared.check.EditsChecked.{EditsChecked}
 use Rattle.ecigar.specs.declared.check.EditsChecked.the-variants.{Fine}
 use Rattle.ecigar.specs.Table90.{printAll}
-use Rattle.ecigar.specs.Ecigar.{setOut, past, gap, ending}
+use Rattle.ecigar.specs.Ecigar.{setOutAt, past, gap, ending}
 
--- nothing taken and nothing written
-abbrev pub startTally : Tally
-startTally = record { walk = setOut; taken = 0; text = 0 }
+-- nothing taken and nothing written, before a run whose first base stands at this offset
+abbrev pub startTallyAt : (from : ℕ) → Tally
+startTallyAt from = record { walk = setOutAt from; taken = 0; text = 0 }
 
 -- the characters that an edit adds: what stands before it, and its letter
 unfoldable pub textBy : Walk → Edit → ℕ

@@ -1,7 +1,7 @@
 -- `ecigar::check::check` meets its contract: the tests on the way pick the case. Assumes nothing.
 use mathlib.Core.Path.{sym, _∙_}
 use native.Mathlib.Omega.{arith}
-use Rattle.ecigar.specs.Check.{checkOf}
+use Rattle.ecigar.specs.Check.{editsChecked, checkOf}
 use borrow.Author.Tests.{le-ltb, lt-ltb}
 use borrow.Author.Needs.{needs}
 use Rattle.ecigar.proofs.check.check.Statement.{statement}
@@ -29,7 +29,7 @@ check-edits-requires : tie.Need-check-edits-requires
 check-edits-requires c κs = search needs
 
 returns-4 : tie.Need-returns-4
-unfolding checkOf
+unfolding checkOf editsChecked
 returns-4 c = simp (le-ltb _ _ (c .before .before .before .before .before .if1 .left), le-ltb _ _ (c .before .before .before .if2 .left)) (c .check-edits .ensures)
 
 pub check-spec : {M : Type 1} → statement M

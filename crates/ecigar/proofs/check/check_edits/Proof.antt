@@ -5,16 +5,16 @@ use Rattle.ecigar.proofs.CheckLaws.{checkedFrom, check-start, check-sho
 use Rattle.edits.proofs.EditLaws.{edit-accepted}
 use mathlib.Core.Logic.{inl}
 use borrow.Author.Tests.{ltb-false}
-use Rattle.ecigar.specs.Check.{editsChecked}
+use Rattle.ecigar.specs.Check.{pieceChecked}
 use Rattle.ecigar.proofs.check.check_edits.Statement.{statement}
 use Rattle.ecigar.proofs.check.check_edits.Tie as tie
 
 abbrev Inv-loop : tie.InvT-loop
-Inv-loop frame class letters run step symbols t₀ at₀ left₀ t at left =
-    TallyWithin (run .mapped) (run .edits) left t × (checkedFrom class letters frame (run .mapped) left at t ≡ editsChecked class letters frame (run .«edits_at») (run .edits) (run .mapped))
+Inv-loop frame class letters from run step symbols t₀ at₀ left₀ t at left =
+    TallyWithin (run .mapped) (run .edits) left t × (checkedFrom class letters frame (run .mapped) left at t ≡ pieceChecked class letters frame from (run .«edits_at») (run .edits) (run .mapped))
 
 abbrev μ-loop : tie.MeasureT-loop
-μ-loop frame class letters run step symbols t₀ at₀ left₀ t at left = left
+μ-loop frame class letters from run step symbols t₀ at₀ left₀ t at left = left
 
 width-requires : tie.Need-width-requires Inv-loop μ-loop
 width-requires c κs = tt
@@ -22,11 +22,11 @@ width-requires c κs = tt
 size-requires : tie.Need-size-requires Inv-loop μ-loop
 size-requires c κs = tt
 
-start-requires : tie.Need-start-requires Inv-loop μ-loop
-start-requires c κs = tt
+start-at-requires : tie.Need-start-at-requires Inv-loop μ-loop
+start-at-requires c κs = tt
 
 loop-holds : tie.Need-loop-holds Inv-loop μ-loop
-loop-holds c = (rw (c .start .ensures) record { next = omega arith; run = omega arith; begun = inl refl; taken = omega arith; text = omega arith }, check-start _ _ _ _ _ _ _ (c .start .ensures))
+loop-holds c = (rw (c .start-at .ensures) record { next = omega arith; run = omega arith; begun = inl refl; taken = omega arith; text = omega arith }, check-start _ _ _ _ _ _ _ _ (c .start-at .ensures))
 
 ends-within-requires : tie.Need-ends-within-requires Inv-loop μ-loop
 ends-within-requires c κs = tt
@@ -119,7 +119,7 @@ check-edits-spec =
     μ-loop
     width-requires
     size-requires
-    start-requires
+    start-at-requires
     loop-holds
     ends-within-requires
     returns

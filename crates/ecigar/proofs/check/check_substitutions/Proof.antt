@@ -30,7 +30,8 @@ size-requires : tie.Need-size-requires Inv-loop μ-loop
 size-requires c κs = tt
 
 loop-holds : tie.Need-loop-holds Inv-loop μ-loop
-loop-holds c = substitutions-start _ _ _ _ _ _ (check-start _ _ _ _ _ _ _ refl)
+unfolding editsChecked
+loop-holds c = substitutions-start _ _ _ _ _ _ (check-start _ _ _ _ 0 _ _ _ refl)
 
 ends-within-requires : tie.Need-ends-within-requires Inv-loop μ-loop
 ends-within-requires c κs = tt

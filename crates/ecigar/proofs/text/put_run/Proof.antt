@@ -1,7 +1,9 @@
 -- `ecigar::text::put_run` meets its contract: the tests on the way pick the walk, and with no edits the text is one match, `run-matched`. Assumes nothing.
 use mathlib.Core.Path.{sym, _∙_}
+use native.Mathlib.Omega.{arith}
 use borrow.Author.Needs.{needs}
 use Rattle.writing.proofs.LayLaws.{laid-as}
+use Rattle.ecigar.specs.Ecigar.{ecigarOf}
 use Rattle.ecigar.proofs.SubstitutionLaws.{run-matched}
 use Rattle.ecigar.proofs.text.put_run.Statement.{statement}
 use Rattle.ecigar.proofs.text.put_run.Tie as tie
@@ -27,14 +29,16 @@ same-length-2 c = search needs
 returns-2 : tie.Need-returns-2
 returns-2 c = c .before .before .put-substitutions .ensures
 
-put-edits-requires : tie.Need-put-edits-requires
-put-edits-requires c κs = c .before .before .before .before .before .before .before .pre
+write-piece-requires : tie.Need-write-piece-requires
+unfolding ecigarOf
+write-piece-requires c κs = let s = c .before .before .before .before .before .before .before in ((omega arith, s .pre .0), s .pre .1)
 
 same-length-3 : tie.Need-same-length-3
 same-length-3 c = search needs
 
 returns-3 : tie.Need-returns-3
-returns-3 c = c .before .before .put-edits .ensures
+unfolding ecigarOf
+returns-3 c = c .before .before .write-piece .ensures
 
 pub put-run-spec : {M : Type 1} → statement M
 put-run-spec =
@@ -47,6 +51,6 @@ put-run-spec =
     put-substitutions-requires
     same-length-2
     returns-2
-    put-edits-requires
+    write-piece-requires
     same-length-3
     returns-3)

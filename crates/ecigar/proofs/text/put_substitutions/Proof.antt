@@ -28,7 +28,8 @@ width-requires : tie.Need-width-requires Inv-loop μ-loop
 width-requires c κs = tt
 
 loop-holds : tie.Need-loop-holds Inv-loop μ-loop
-loop-holds c = let s = c .before .before .before .before in record { walk = setOut; plain = refl; there = refl; writing = writing-start _ _ _ _ _ _ _ _ (s .pre .0 .1) (s .pre .1 .0) }
+unfolding ecigarOf
+loop-holds c = let s = c .before .before .before .before in record { walk = setOut; plain = refl; there = refl; writing = writing-start _ _ _ _ _ _ _ _ _ (omega arith) (s .pre .0 .1) (s .pre .1 .0) }
 
 substitution-at-requires : tie.Need-substitution-at-requires Inv-loop μ-loop
 substitution-at-requires c κs =

@@ -1,22 +1,24 @@
--- `ecigar::text::put_edits` meets its contract. The loop's invariant: to lay the text of the edits that are left, from here, gives what laying the whole gives. Assumes nothing.
+-- `ecigar::text::write_piece` meets its contract. The loop's invariant: to lay the text of the edits that are left, from here, gives what laying the whole gives. Assumes nothing.
 use Prim.Native.Nat.{_+_, _≤_}
 use mathlib.Core.Path.{_∙_}
 use native.Mathlib.Omega.{arith}
 use Rattle.writing.proofs.LayLaws.{rest-room-end, rest-end}
 use Rattle.edits.specs.Edits.{editsAt}
+use Rattle.ecigar.specs.Table90.{printAll}
 use Rattle.edits.proofs.EditLaws.{framed-on}
-use Rattle.ecigar.specs.Ecigar.{ecigarOf}
+use Rattle.ecigar.specs.Ecigar.{setOutAt, operationsFrom}
 use Rattle.ecigar.proofs.WalkLaws.{past-run}
 use Rattle.ecigar.proofs.TextLaws.{Writing, writing-start, writing-order, writing-room, writing-on, ecigar-end}
-use Rattle.ecigar.proofs.text.put_edits.Statement.{statement}
-use Rattle.ecigar.proofs.text.put_edits.Tie as tie
+use Rattle.ecigar.proofs.text.write_piece.Statement.{statement}
+use Rattle.ecigar.proofs.text.write_piece.Tie as tie
 
 abbrev Inv-loop : tie.InvT-loop
-Inv-loop out₀ from frame class letters run table step w₀ next₀ at₀ left₀ out w next at left =
-    (w .run + left ≤ run .edits) × Writing class letters frame (run .mapped) left at w out next out₀ from (ecigarOf letters (run .mapped) (editsAt class letters frame (run .edits) (run .«edits_at»)))
+Inv-loop out₀ at frame class letters start run table step w₀ next₀ place₀ left₀ out w next place left =
+    (w .run + left ≤ run .edits)
+    × Writing class letters frame (run .mapped) left place w out next out₀ at (printAll (operationsFrom letters (run .mapped) (setOutAt start) (editsAt class letters frame (run .edits) (run .«edits_at»))))
 
 abbrev μ-loop : tie.MeasureT-loop
-μ-loop out₀ from frame class letters run table step w₀ next₀ at₀ left₀ out w next at left = left
+μ-loop out₀ at frame class letters start run table step w₀ next₀ place₀ left₀ out w next place left = left
 
 digits-requires : tie.Need-digits-requires Inv-loop μ-loop
 digits-requires c κs = tt
@@ -24,11 +26,11 @@ digits-requires c κs = tt
 width-requires : tie.Need-width-requires Inv-loop μ-loop
 width-requires c κs = tt
 
-start-requires : tie.Need-start-requires Inv-loop μ-loop
-start-requires c κs = tt
+start-at-requires : tie.Need-start-at-requires Inv-loop μ-loop
+start-at-requires c κs = tt
 
 loop-holds : tie.Need-loop-holds Inv-loop μ-loop
-loop-holds c = let s = c .before .before .before .before .before in rw (c .start .ensures) (omega arith, writing-start _ _ _ _ _ _ _ _ (s .pre .0 .1) (s .pre .1 .0))
+loop-holds c = let s = c .before .before .before .before .before in rw (c .start-at .ensures) (omega arith, writing-start _ _ _ _ _ _ _ _ _ (s .pre .0 .0) (s .pre .0 .1 .1) (s .pre .1 .0))
 
 edit-at-requires : tie.Need-edit-at-requires Inv-loop μ-loop
 edit-at-requires c κs =
@@ -36,7 +38,7 @@ edit-at-requires c κs =
     let at-width = c .before .before .before in
     let s = at-width .before .before .before .before in
     let wide = at-width .width .ensures in
-    rw (← wide) (framed-on (s .args .frame .now) (s .args .class) (g .at) (g .left) (at-width .width .result) (g .inv .1 .framed) wide (c .loop-test .taken) .0)
+    rw (← wide) (framed-on (s .args .frame .now) (s .args .class) (g .place) (g .left) (at-width .width .result) (g .inv .1 .framed) wide (c .loop-test .taken) .0)
 
 put-edit-requires : tie.Need-put-edit-requires Inv-loop μ-loop
 put-edit-requires c κs =
@@ -57,16 +59,16 @@ advance-requires c κs =
     let at-loop-test = c .before .before .before .before .before .before in
     let at-loop = at-loop-test .before in
     let s = at-loop .before .before .before .before .before .before in
-    omega (arith, at-loop .loop .inv .0, at-loop-test .loop-test .taken, s .pre .0 .0)
+    omega (arith, at-loop .loop .inv .0, at-loop-test .loop-test .taken, s .pre .0 .1 .0)
 
-add-at : tie.Need-add-at Inv-loop μ-loop
-add-at c =
+add-place : tie.Need-add-place Inv-loop μ-loop
+add-place c =
     let at-loop-test = c .before .before .before .before .before .before .before in
     let at-loop = at-loop-test .before in
     let at-width = at-loop .before .before in
     let s = at-width .before .before .before .before in
     let g = at-loop .loop in
-    omega (arith, framed-on (s .args .frame .now) (s .args .class) (g .at) (g .left) (at-width .width .result) (g .inv .1 .framed) (at-width .width .ensures) (at-loop-test .loop-test .taken) .0)
+    omega (arith, framed-on (s .args .frame .now) (s .args .class) (g .place) (g .left) (at-width .width .result) (g .inv .1 .framed) (at-width .width .ensures) (at-loop-test .loop-test .taken) .0)
 
 sub-left : tie.Need-sub-left Inv-loop μ-loop
 sub-left c = omega arith
@@ -97,20 +99,20 @@ same-length c = c .before .before .put-ending .kept .0 ∙ c .before .before .be
 returns : tie.Need-returns Inv-loop μ-loop
 returns c = rest-end (c .before .before .before .before .before .loop .inv .1 .rest) (rw (ecigar-end _ _ _ _ _ _ _ (c .before .before .before .before .loop-test .left)) (c .before .before .put-ending .ensures))
 
-pub put-edits-spec : {M : Type 1} → statement M
-put-edits-spec =
+pub write-piece-spec : {M : Type 1} → statement M
+write-piece-spec =
     tie.close
     (tie.spec
     Inv-loop
     μ-loop
     digits-requires
     width-requires
-    start-requires
+    start-at-requires
     loop-holds
     edit-at-requires
     put-edit-requires
     advance-requires
-    add-at
+    add-place
     sub-left
     loop-less
     loop-again
