@@ -22,7 +22,7 @@ use Rattle.edits.specs.Edits.{insertion, deletion, widthOf, editAt, editsAt, ne
 use Rattle.edits.proofs.EditLaws.{edits-on, edits-none, framed-on}
 use Rattle.bases.specs.declared.places.Places.{Places}
 use Rattle.bases.specs.Reference.{matchedBases, matchRefusal}
-use Rattle.bases.specs.Bases.{R, r, beginning, pastEdit, editBases, basesFrom, refusalFrom, lettersAt, mappedBases, basesText}
+use Rattle.bases.specs.Bases.{R, r, pointers, pastEdit, editBases, basesFrom, refusalFrom, lettersAt, mappedBases, basesText}
 use Rattle.bases.specs.code.Helpers.{farthest}
 use Rattle.bases.proofs.ReferenceLaws.{length-letters}
 
@@ -112,8 +112,8 @@ pub record BasesWalk (class : ℕ) (frame : List ℕ) (p : Places) (left at : �
   pub framed : at + left * widthOf class ≤ length frame
 
 -- pointer R starts within 32 bits, and there are fewer than 2 ^ 32 edits
-pub walk-start : (class : ℕ) (frame : List ℕ) (position count at : ℕ) {p : Places} → p ≡ beginning position → position < 2 ^ 32 → count < 2 ^ 32 → at + count * widthOf class ≤ length frame → BasesWalk class frame p count at
-walk-start class frame position count at q h k f = record { reference = omega (arith, ap (λ (x : Places). R x) q); framed = f }
+pub walk-start : (class : ℕ) (frame : List ℕ) (position start count at : ℕ) {p : Places} → p ≡ pointers position start → position < 2 ^ 32 → count < 2 ^ 32 → at + count * widthOf class ≤ length frame → BasesWalk class frame p count at
+walk-start class frame position start count at q h k f = record { reference = omega (arith, ap (λ (x : Places). R x) q); framed = f }
 
 module _ {class : ℕ} {frame : List ℕ} {p : Places} {left at : ℕ} (w : BasesWalk class frame p left at) where
   pub walk-near : R p ≤ farthest

@@ -38,7 +38,7 @@ bytes-edit : (alphabet : ℕ) (e : Edit) → Bytes (editBases alphabet e)
 unfolding editBases Bytes
 bytes-edit alphabet e = one-of Bytes (eqb (e .kind) deletion) _ _ tt (letter-byte alphabet (e .symbol), tt)
 
-bytes-mapped : (alphabet : ℕ) (reference : List ℕ) (first mapped : ℕ) (p : Places) (es : List Edit) → Bytes (basesFrom alphabet reference first mapped p es)
+pub bytes-mapped : (alphabet : ℕ) (reference : List ℕ) (first mapped : ℕ) (p : Places) (es : List Edit) → Bytes (basesFrom alphabet reference first mapped p es)
 unfolding basesFrom
 bytes-mapped alphabet reference first mapped p [] = bytes-matched alphabet reference first (R p) (mapped - r p)
 bytes-mapped alphabet reference first mapped p (e ∷ es) =

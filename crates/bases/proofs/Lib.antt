@@ -4,4 +4,5 @@ pub mod AlignmentLaws
 pub mod ReadLaws
 pub mod RefusalLaws
 pub mod BytesLaws
+pub mod SplicedLaws
 pub mod Unique

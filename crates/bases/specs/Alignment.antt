@@ -9,8 +9,10 @@ use Rattle.edits.specs.declared.edit.Edit.{Edit}
 use Rattle.edits.specs.declared.Block.{Block}
 use Rattle.edits.specs.Edits.{deletion, editsAt, Sound}
 use Rattle.edits.specs.Lengths.{softBases, mappedLength}
+use Rattle.edits.specs.Pieces.{Piece}
 use Rattle.bases.specs.declared.places.Places.{Places}
 use Rattle.bases.specs.Bases.{R, r, pastEdit}
+use Rattle.bases.specs.Spliced.{pieceBeginning}
 
 -- in a match from both pointers up to a place of the read, base i stands at the position that is as far from R as i is from r
 pub record Stands (p : Places) (to i position : ℕ) : Type 0 where
@@ -27,6 +29,16 @@ UnderMatch mapped p (e ∷ es) i position = Stands p (e .offset) i position ⊎ 
 unfoldable pub OfEdit : List Edit → ℕ → Edit → Type 0
 OfEdit [] i d = ⊥
 OfEdit (e ∷ es) i d = ((e ≡ d) × ((e .kind ≡ deletion → ⊥) × (e .offset ≡ i))) ⊎ OfEdit es i d
+
+-- base i stands at a reference position under a match of one of the pieces: each has its own way from the reference to the read
+unfoldable pub MatchedIn : List Piece → ℕ → ℕ → Type 0
+MatchedIn [] i position = ⊥
+MatchedIn (p ∷ ps) i position = UnderMatch (p .until) (pieceBeginning p) (p .edits) i position ⊎ MatchedIn ps i position
+
+-- base i is the one that a substitution or an insertion of one of the pieces brings
+unfoldable pub EditedIn : List Piece → ℕ → Edit → Type 0
+EditedIn [] i d = ⊥
+EditedIn (p ∷ ps) i d = OfEdit (p .edits) i d ⊎ EditedIn ps i d
 
 -- a segment whose block was accepted: its soft clips do not reach the read length (9), and each edit is accepted where it stands (11, 10, 12)
 pub record Acceptable (class alphabet : ℕ) (frame : List ℕ) (s : Block) : Type 0 where

@@ -1,4 +1,5 @@
 pub mod Reference
 pub mod Bases
+pub mod Spliced
 pub mod Alignment
 pub mod code

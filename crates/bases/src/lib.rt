@@ -24,11 +24,11 @@ ghost use Prim.Native.Nat.{_+_, _-_, _*_, _≤_};
 ghost use lib.ListN.{length};
 ghost use Rattle.writing.specs.Lay.{Laid};
 ghost use Rattle.alphabet.specs.code.Digits.{digitsOf};
-ghost use Rattle.edits.specs.Edits.{widthOf};
+ghost use Rattle.edits.specs.Edits.{widthOf, editsAt};
 ghost use Rattle.edits.specs.code.Runs.{substitutesOnly};
 ghost use Rattle.edits.specs.Lengths.{softBases};
 ghost use Rattle.bases.specs.Reference.{matchedBases, matchRefusal};
-ghost use Rattle.bases.specs.Bases.{R, r, editBases, mappedBases, referenceRefusal, basesText};
+ghost use Rattle.bases.specs.Bases.{R, r, pointers, editBases, basesFrom, refusalFrom, mappedBases, referenceRefusal, basesText};
 ghost use Rattle.bases.specs.code.Helpers.{farthest};
 
 // Refusal 10 where a lent byte outside the alphabet stands at one of so many positions, else 0.
@@ -52,9 +52,26 @@ pub fn check_reference(
     requires { ⌜ run .«edits_at» + run .edits * widthOf class ≤ length (now frame) ⌝ }
     ensures { λ n. ⌜ n ≡ referenceRefusal class alphabet (now (frame .entry)) (now (reference .entry)) first position (run .mapped) (run .edits) (run .«edits_at») ⌝ }
 {
+    check_piece(reference, first, alphabet, position, 0, frame, class, run)
+}
+
+// The same of a piece of a read over introns: both pointers begin anew at its position and its start.
+pub fn check_piece(
+    reference: &[u8],
+    first: u32,
+    alphabet: u32,
+    position: u32,
+    start: u32,
+    frame: &[u8],
+    class: u32,
+    run: Run,
+) -> u32
+    requires { ⌜ run .«edits_at» + run .edits * widthOf class ≤ length (now frame) ⌝ }
+    ensures { λ n. ⌜ n ≡ refusalFrom alphabet (now (reference .entry)) first (run .mapped) (pointers position start) (editsAt class alphabet (now (frame .entry)) (run .edits) (run .«edits_at»)) ⌝ }
+{
     let step = width(class);
     let mut at = run.edits_at;
-    let mut p = Places::beginning(position);
+    let mut p = Places::at(position, start);
     let mut left = run.edits;
     while 0 < left {
         let e = edit_at(frame, class, alphabet, at);
@@ -92,26 +109,27 @@ fn put_edit(
     put_letter(out, next, table, e.symbol)
 }
 
-// The bases of a run's edits, each with the match before it, then of the match behind the last.
+// The bases of a read's edits, each with the match before it, then of the match behind the last.
 fn put_edits(
     out: &mut [u8],
     at: usize,
     reference: &[u8],
     first: u32,
     alphabet: u32,
-    pos: u32,
+    position: u32,
+    start: u32,
     frame: &[u8],
     class: u32,
     run: Run,
 ) -> usize
     requires { ⌜ run .«edits_at» + run .edits * widthOf class ≤ length (now frame) ⌝ }
-    requires { ⌜ at + 2 * length (mappedBases class alphabet (now frame) (now reference) first pos (run .mapped) (run .edits) (run .«edits_at»)) ≤ length (now out) ⌝ }
-    ensures { λ a. ⌜ Laid (now (out .entry)) (now (out .exit)) at a (mappedBases class alphabet (now (frame .entry)) (now (reference .entry)) first pos (run .mapped) (run .edits) (run .«edits_at»)) ⌝ }
+    requires { ⌜ at + 2 * length (basesFrom alphabet (now reference) first (run .mapped) (pointers position start) (editsAt class alphabet (now frame) (run .edits) (run .«edits_at»))) ≤ length (now out) ⌝ }
+    ensures { λ a. ⌜ Laid (now (out .entry)) (now (out .exit)) at a (basesFrom alphabet (now (reference .entry)) first (run .mapped) (pointers position start) (editsAt class alphabet (now (frame .entry)) (run .edits) (run .«edits_at»))) ⌝ }
 {
     let table = alphabet::digits(alphabet);
     let step = width(class);
     let mut here = run.edits_at;
-    let mut p = Places::beginning(pos);
+    let mut p = Places::at(position, start);
     let mut next = at;
     let mut left = run.edits;
     while 0 < left {
@@ -124,7 +142,75 @@ fn put_edits(
     put_matched(out, next, reference, first, alphabet, p, run.mapped)
 }
 
-// The same where every edit is a substitution: a loop of its own, in which the compiler sees that none is an insertion or a deletion.
+// The same for a piece of a read over introns: a walk of its own, so that the one above is called from one place (docs/BENCHMARK.md).
+fn put_piece_edits(
+    out: &mut [u8],
+    at: usize,
+    reference: &[u8],
+    first: u32,
+    alphabet: u32,
+    position: u32,
+    start: u32,
+    frame: &[u8],
+    class: u32,
+    run: Run,
+) -> usize
+    requires { ⌜ run .«edits_at» + run .edits * widthOf class ≤ length (now frame) ⌝ }
+    requires { ⌜ at + 2 * length (basesFrom alphabet (now reference) first (run .mapped) (pointers position start) (editsAt class alphabet (now frame) (run .edits) (run .«edits_at»))) ≤ length (now out) ⌝ }
+    ensures { λ a. ⌜ Laid (now (out .entry)) (now (out .exit)) at a (basesFrom alphabet (now (reference .entry)) first (run .mapped) (pointers position start) (editsAt class alphabet (now (frame .entry)) (run .edits) (run .«edits_at»))) ⌝ }
+{
+    let table = alphabet::digits(alphabet);
+    let step = width(class);
+    let mut here = run.edits_at;
+    let mut p = Places::at(position, start);
+    let mut next = at;
+    let mut left = run.edits;
+    while 0 < left {
+        let e = edit_at(frame, class, alphabet, here);
+        next = put_edit(out, next, reference, first, alphabet, &table, p, e);
+        p = p.past_edit(e);
+        here += step;
+        left -= 1;
+    }
+    put_matched(out, next, reference, first, alphabet, p, run.mapped)
+}
+
+// The bases of a piece of a read over introns, from its position and its start on. One with no edits is one match, and takes no table.
+pub fn write_piece(
+    out: &mut [u8],
+    at: usize,
+    reference: &[u8],
+    first: u32,
+    alphabet: u32,
+    position: u32,
+    start: u32,
+    frame: &[u8],
+    class: u32,
+    run: Run,
+) -> usize
+    requires { ⌜ run .«edits_at» + run .edits * widthOf class ≤ length (now frame) ⌝ }
+    requires { ⌜ at + 2 * length (basesFrom alphabet (now reference) first (run .mapped) (pointers position start) (editsAt class alphabet (now frame) (run .edits) (run .«edits_at»))) ≤ length (now out) ⌝ }
+    ensures { λ a. ⌜ Laid (now (out .entry)) (now (out .exit)) at a (basesFrom alphabet (now (reference .entry)) first (run .mapped) (pointers position start) (editsAt class alphabet (now (frame .entry)) (run .edits) (run .«edits_at»))) ⌝ }
+{
+    if run.edits == 0 {
+        let p = Places::at(position, start);
+        return put_matched(out, at, reference, first, alphabet, p, run.mapped);
+    }
+    put_piece_edits(
+        out,
+        at,
+        reference,
+        first,
+        alphabet,
+        position,
+        start,
+        frame,
+        class,
+        run,
+    )
+}
+
+// The same of a read without splices where every edit is a substitution: a loop of its own, in which the compiler sees that none is an insertion or a deletion.
 fn put_substitutions(
     out: &mut [u8],
     at: usize,
@@ -156,7 +242,7 @@ fn put_substitutions(
     put_matched(out, next, reference, first, alphabet, p, run.mapped)
 }
 
-// The bases of a run. One with no edits is one match, and takes no table.
+// The bases of a read without splices, from its first mapped base on. One with no edits is one match, and takes no table.
 fn put_run(
     out: &mut [u8],
     at: usize,
@@ -179,7 +265,18 @@ fn put_run(
     if substitutes(class) {
         return put_substitutions(out, at, reference, first, alphabet, pos, frame, class, run);
     }
-    put_edits(out, at, reference, first, alphabet, pos, frame, class, run)
+    put_edits(
+        out,
+        at,
+        reference,
+        first,
+        alphabet,
+        pos,
+        0,
+        frame,
+        class,
+        run,
+    )
 }
 
 // A whole read, laid as digits: left soft clip, run, right soft clip.

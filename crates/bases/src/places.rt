@@ -3,7 +3,7 @@ use crate::lent::between;
 use edits::edit::Edit;
 ghost use mathlib.Core.Path.{_≡_};
 ghost use Prim.Native.Nat.{_+_, _-_, _^_, _<_, _≤_};
-ghost use Rattle.bases.specs.Bases.{R, r, beginning, pastMatch, pastSubstitution, pastInsertion, pastDeletion, pastEdit};
+ghost use Rattle.bases.specs.Bases.{R, r, pointers, beginning, pastMatch, pastSubstitution, pastInsertion, pastDeletion, pastEdit};
 ghost use Rattle.bases.specs.code.Helpers.{farthest};
 
 // A position of the reference. It may lie behind the last position that 32 bits hold.
@@ -19,13 +19,20 @@ pub struct Places {
 }
 
 impl Places {
+    // R at a piece's position, r at the mapped base that it begins with.
+    pub(crate) fn at(position: u32, start: u32) -> Places
+        ensures { λ q. ⌜ q ≡ pointers position start ⌝ }
+    {
+        let reference = RefPlace(position as u64);
+        let read = ReadPlace(start);
+        Places { reference, read }
+    }
+
     // R at the segment's position, r at its first mapped base.
     pub(crate) fn beginning(position: u32) -> Places
         ensures { λ q. ⌜ q ≡ beginning position ⌝ }
     {
-        let reference = RefPlace(position as u64);
-        let read = ReadPlace(0);
-        Places { reference, read }
+        Places::at(position, 0)
     }
 
     // How many bases match up to a place of the read.

@@ -3,7 +3,7 @@ use mathlib.Core.Path.{refl, _∙_}
 use native.Mathlib.Omega.{arith}
 use Rattle.writing.proofs.LayLaws.{Rest, rest-put, rest-room-end, rest-end, rest-from}
 use Rattle.edits.specs.Edits.{editsAt}
-use Rattle.bases.specs.Bases.{basesFrom, mappedBases}
+use Rattle.bases.specs.Bases.{pointers, basesFrom}
 use Rattle.bases.proofs.ReferenceLaws.{length-matched}
 use Rattle.bases.proofs.BasesLaws.{BasesWalk, walk-start, walk-on, walk-near, walk-room, bases-on, bases-room, bases-end}
 use borrow.Author.Needs.{needs}
@@ -11,10 +11,10 @@ use Rattle.bases.proofs.put_edits.Statement.{statement}
 use Rattle.bases.proofs.put_edits.Tie as tie
 
 abbrev Inv-loop : tie.InvT-loop
-Inv-loop out₀ at reference first letters position frame class run table step here₀ p₀ next₀ left₀ out here p next left = BasesWalk class frame p left here × Rest out next (basesFrom letters reference first (run .mapped) p (editsAt class letters frame left here)) out₀ at (mappedBases class letters frame reference first position (run .mapped) (run .edits) (run .«edits_at»))
+Inv-loop out₀ at reference first letters position start frame class run table step here₀ p₀ next₀ left₀ out here p next left = BasesWalk class frame p left here × Rest out next (basesFrom letters reference first (run .mapped) p (editsAt class letters frame left here)) out₀ at (basesFrom letters reference first (run .mapped) (pointers position start) (editsAt class letters frame (run .edits) (run .«edits_at»)))
 
 abbrev μ-loop : tie.MeasureT-loop
-μ-loop out₀ at reference first letters position frame class run table step here₀ p₀ next₀ left₀ out here p next left = left
+μ-loop out₀ at reference first letters position start frame class run table step here₀ p₀ next₀ left₀ out here p next left = left
 
 digits-requires : tie.Need-digits-requires Inv-loop μ-loop
 digits-requires c κs = search needs
@@ -22,11 +22,11 @@ digits-requires c κs = search needs
 width-requires : tie.Need-width-requires Inv-loop μ-loop
 width-requires c κs = search needs
 
-beginning-requires : tie.Need-beginning-requires Inv-loop μ-loop
-beginning-requires c κs = search needs
+at-requires : tie.Need-at-requires Inv-loop μ-loop
+at-requires c κs = search needs
 
 loop-holds : tie.Need-loop-holds Inv-loop μ-loop
-loop-holds c = (walk-start _ _ _ _ _ (c .beginning .ensures) (omega arith) (omega arith) (c .before .before .before .before .before .before .pre .0), rest-from _ _ (rw (c .beginning .ensures)))
+loop-holds c = (walk-start _ _ _ _ _ _ (c .at .ensures) (omega arith) (omega arith) (c .before .before .before .before .before .before .pre .0), rest-from _ _ (rw (c .at .ensures)))
 
 edit-at-requires : tie.Need-edit-at-requires Inv-loop μ-loop
 edit-at-requires c κs = walk-room (c .before .loop .inv .0) (c .loop-test .taken) refl
@@ -49,7 +49,7 @@ add-here c =
     let at-loop = at-loop-test .before in
     let at-width = at-loop .before .before in
     let at-start = at-width .before .before .before .before .before in
-    omega (arith, walk-room (at-loop .loop .inv .0) (at-loop-test .loop-test .taken) (at-width .width .ensures), at-start .good .1 .1 .1 .1 .1 .1 .0)
+    omega (arith, walk-room (at-loop .loop .inv .0) (at-loop-test .loop-test .taken) (at-width .width .ensures), at-start .good .1 .1 .1 .1 .1 .1 .1 .0)
 
 sub-left : tie.Need-sub-left Inv-loop μ-loop
 sub-left c = search needs
@@ -86,7 +86,7 @@ put-edits-spec =
     μ-loop
     digits-requires
     width-requires
-    beginning-requires
+    at-requires
     loop-holds
     edit-at-requires
     put-edit-requires

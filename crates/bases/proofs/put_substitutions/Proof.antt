@@ -26,7 +26,7 @@ beginning-requires : tie.Need-beginning-requires Inv-loop μ-loop
 beginning-requires c κs = search needs
 
 loop-holds : tie.Need-loop-holds Inv-loop μ-loop
-loop-holds c = (walk-start _ _ _ _ _ (c .beginning .ensures) (omega arith) (omega arith) (c .before .before .before .before .before .before .pre .0 .1), rest-from _ _ (rw (c .beginning .ensures)))
+loop-holds c = (walk-start _ _ _ _ _ _ (c .beginning .ensures) (omega arith) (omega arith) (c .before .before .before .before .before .before .pre .0 .1), rest-from _ _ (rw (c .beginning .ensures)))
 
 substitution-at-requires : tie.Need-substitution-at-requires Inv-loop μ-loop
 substitution-at-requires c κs =
