@@ -1,0 +1,4 @@
+pub mod WalkingLaws
+pub mod PlaceLaws
+pub mod CheckLaws
+pub mod WriteLaws
