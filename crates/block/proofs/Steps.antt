@@ -2,20 +2,25 @@
 -- `search` walks the definition by itself.
 -- Assumes nothing.
 use mathlib.Core.Path.{_≡_, refl, sym, ap, _∙_}
+use mathlib.Core.Bool.{cond}
 use mathlib.Core.List.{List}
-use Prim.Native.Nat.{ℕ}
+use Prim.Native.Nat.{ℕ, _<_, _≤_}
 use native.Mathlib.Omega.{arith}
+use borrow.Author.Tests.{lt-ltb, le-leb, lt-leb}
+use lib.Dec.{leb}
 use Rattle.frame.specs.declared.field.Cursor.{Cursor}
 use Rattle.state.specs.declared.State.{State}
+use Rattle.unit.specs.Unit.{classI}
 use Rattle.taking.specs.Steps.{Steps, refuses, Came, came, stopped, cameNumber, decode}
 use Rattle.edits.specs.declared.Clips.{Clips}
 use Rattle.edits.specs.declared.Block.{Block}
+use Rattle.splices.specs.declared.Splices.{Splices}
 use Rattle.ecigar.specs.declared.check.EditsChecked.{EditsChecked}
 use Rattle.ecigar.specs.declared.check.EditsChecked.the-variants as edits
 use Rattle.taking.proofs.Reading.{Quiet}
 use Rattle.block.specs.Checked.{lengthAt, rcompAt, afterChecked}
 use Rattle.block.specs.Aligned.{afterClips, afterEdits, fromSoft}
-use Rattle.block.specs.Head.{headNumber, fromRcomp, headAt, headMoved}
+use Rattle.block.specs.Head.{headNumber, fromPieces, fromRcomp, headAt, headMoved}
 use Rattle.block.specs.declared.head.BlockHead.{BlockHead}
 use Rattle.block.specs.declared.head.HeadMoved.{HeadMoved}
 use Rattle.block.specs.declared.head.HeadRead.the-variants as head
@@ -65,10 +70,10 @@ module _ (st : State) (x : Came BlockHead) (m : HeadMoved) (is : m ≡ headMoved
       by (came b next) q = absurd (let w : head.Whole b ≡ head.Refused n = sym (ap (λ (r : HeadMoved). r .answer) q) ∙ e in let z : _≡_ {A = ℕ} 0 1 = cc in omega arith)
       by (stopped k) q = let w : head.Refused k ≡ head.Refused n = sym (ap (λ (r : HeadMoved). r .answer) q) ∙ e in cc
 
--- no head takes a symbol: no field asks for one
-pub head-quiet : (frame : List ℕ) (at : ℕ) → Quiet (headAt frame at)
-unfolding headAt fromRcomp
-head-quiet frame at = by (lengthAt frame at) _ (λ length next. by (rcompAt frame (next .at)) _ (λ rcomp last. tt))
+-- before I no head takes a symbol: no field asks for one
+pub head-quiet : (class : ℕ) (frame : List ℕ) (position at : ℕ) → class < classI → Quiet (headAt class frame position at)
+unfolding headAt fromRcomp fromPieces
+head-quiet class frame position at h = by (lengthAt frame at) _ (λ length next. by (rcompAt class frame (next .at)) _ (λ rcomp last. rw (lt-ltb class classI h) tt))
   where
     by : (x : CheckedField) (f : ℕ → Cursor → Steps BlockHead) → ((v : ℕ) (c : Cursor) → Quiet (f v c)) → Quiet (afterChecked refuses x f)
     by (Value v c) f h = h v c
@@ -76,20 +81,28 @@ head-quiet frame at = by (lengthAt frame at) _ (λ length next. by (rcompAt fram
 
 -- ---- the clips
 
-module _ (x : AlignedRead) (answer spec : Clipped) (class alphabet : ℕ) (frame : List ℕ) (length rcomp : ℕ) where
-  pub clipped : (c : Clips) (next : Cursor) → answer ≡ spec → answer ≡ clips.Whole c next → x ≡ fromSoft class alphabet frame length rcomp c (next .at) → x ≡ afterClips class alphabet frame length rcomp spec
+-- a soft clip beside a length that the code was answered
+module _ (x : Clipped) (soft answer spec : ℕ) (p q : Clipped) (e : answer ≡ spec) where
+  pub clip-reaches : answer ≤ soft → x ≡ p → x ≡ cond (leb spec soft) p q
+  clip-reaches h k = rw (← e, le-leb answer soft h) k
+
+  pub clip-below : soft < answer → x ≡ q → x ≡ cond (leb spec soft) p q
+  clip-below h k = rw (← e, lt-leb answer soft h) k
+
+module _ (x : AlignedRead) (answer spec : Clipped) (class alphabet : ℕ) (frame : List ℕ) (length rcomp : ℕ) (splices : Splices) where
+  pub clipped : (c : Clips) (next : Cursor) → answer ≡ spec → answer ≡ clips.Whole c next → x ≡ fromSoft class alphabet frame length rcomp splices c (next .at) → x ≡ afterClips class alphabet frame length rcomp splices spec
   clipped c next e h k = rw (← e, h) k
 
-  pub unclipped : (n : ℕ) → answer ≡ spec → answer ≡ clips.Refused n → x ≡ block.Refused n → x ≡ afterClips class alphabet frame length rcomp spec
+  pub unclipped : (n : ℕ) → answer ≡ spec → answer ≡ clips.Refused n → x ≡ block.Refused n → x ≡ afterClips class alphabet frame length rcomp splices spec
   unclipped n e h k = rw (← e, h) k
 
 -- ---- the edits
 
-module _ (x : AlignedRead) (answer spec : EditsChecked) (class : ℕ) (s : Block) where
-  pub edited : (taken text : ℕ) → answer ≡ spec → answer ≡ edits.Fine taken text → x ≡ afterEdits class s (edits.Fine taken text) → x ≡ afterEdits class s spec
+module _ (x : AlignedRead) (answer spec : EditsChecked) (class : ℕ) (s : Block) (splices : Splices) where
+  pub edited : (taken text : ℕ) → answer ≡ spec → answer ≡ edits.Fine taken text → x ≡ afterEdits class s splices (edits.Fine taken text) → x ≡ afterEdits class s splices spec
   edited taken text e h k = rw (← e, h) k
 
-  pub unedited : (n : ℕ) → answer ≡ spec → answer ≡ edits.Refused n → x ≡ block.Refused n → x ≡ afterEdits class s spec
+  pub unedited : (n : ℕ) → answer ≡ spec → answer ≡ edits.Refused n → x ≡ block.Refused n → x ≡ afterEdits class s splices spec
   unedited n e h k = rw (← e, h) k
 
 -- each of them, for `search`

@@ -20,5 +20,6 @@ read-unaligned-block-once alphabet frame at p q = once p q
 pub read-block-once : (class alphabet : ℕ) (frame : List ℕ) (h : BlockHead) {x y : AlignedRead} → x ≡ alignedAt class alphabet frame h → y ≡ alignedAt class alphabet frame h → x ≡ y
 read-block-once class alphabet frame h p q = once p q
 
-pub read-head-once : (frame symbols counts : List ℕ) (st : State) (at : ℕ) {x y : HeadMoved} → x ≡ headMoved st (decode symbols counts st (headAt frame at)) → y ≡ headMoved st (decode symbols counts st (headAt frame at)) → x ≡ y
-read-head-once frame symbols counts st at p q = once p q
+pub read-head-once : (class : ℕ) (frame symbols counts : List ℕ) (st : State) (at : ℕ) {x y : HeadMoved} → ((position : ℕ) → x ≡ headMoved st (decode symbols counts st (headAt class frame position at)))
+    → ((position : ℕ) → y ≡ headMoved st (decode symbols counts st (headAt class frame position at))) → x ≡ y
+read-head-once class frame symbols counts st at p q = once (p 0) (q 0)

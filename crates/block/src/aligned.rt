@@ -9,13 +9,16 @@ use edits::Block;
 use edits::Clips;
 use edits::run_of;
 use frame::field::Cursor;
+use splices::Splices;
 use unit::Unit;
 ghost use mathlib.Core.Path.{_≡_};
 ghost use Rattle.block.specs.Aligned.{alignedAt, fromClips, fromSoft, fromEdits, editsTallied};
+ghost use Rattle.block.specs.code.Ready.{LengthsFramed};
 
-// A segment that its block gives, the reference positions that it takes, the length of its E-CIGAR, and the place behind the block.
+// A segment that its block gives, its pieces, the reference positions that it takes, the length of its E-CIGAR without splices, and the place behind the block.
 pub struct AlignedBlock {
     pub block: Block,
+    pub splices: Splices,
     pub taken: u32,
     pub text: u32,
     pub next: Cursor,
@@ -28,10 +31,20 @@ pub enum AlignedRead {
 
 // The fields of an aligned block behind its head.
 pub fn read_block(frame: &[u8], class: u32, alphabet: u32, head: BlockHead) -> AlignedRead
+    requires { ⌜ LengthsFramed (now frame) (head .splices) ⌝ }
     ensures { λ r. ⌜ r ≡ alignedAt class alphabet (now (frame .entry)) head ⌝ }
 {
     let next = head.next;
-    from_clips(frame, class, alphabet, head.length, head.rcomp, next)
+    let splices = head.splices;
+    from_clips(
+        frame,
+        class,
+        alphabet,
+        head.length,
+        head.rcomp,
+        splices,
+        next,
+    )
 }
 
 // Only classes I and HM have clips.
@@ -41,15 +54,27 @@ fn from_clips(
     alphabet: u32,
     length: u32,
     rcomp: u32,
+    splices: Splices,
     c: Cursor,
 ) -> AlignedRead
-    ensures { λ r. ⌜ r ≡ fromClips class alphabet (now (frame .entry)) length rcomp (c .at) ⌝ }
+    requires { ⌜ LengthsFramed (now frame) splices ⌝ }
+    ensures { λ r. ⌜ r ≡ fromClips class alphabet (now (frame .entry)) length rcomp splices (c .at) ⌝ }
 {
     let at = c.at;
     if class < Unit::I {
-        return from_edits(frame, class, alphabet, length, rcomp, Clips::none(), at, c);
+        return from_edits(
+            frame,
+            class,
+            alphabet,
+            length,
+            rcomp,
+            splices,
+            Clips::none(),
+            at,
+            c,
+        );
     }
-    match read_clips(frame, length, c) {
+    match read_clips(frame, length, splices, c) {
         Clipped::Refused(n) => AlignedRead::Refused(n),
         Clipped::Whole(clips, next) => from_soft(
             frame,
@@ -57,6 +82,7 @@ fn from_clips(
             alphabet,
             length,
             rcomp,
+            splices,
             clips,
             next,
         ),
@@ -69,10 +95,11 @@ fn from_soft(
     alphabet: u32,
     length: u32,
     rcomp: u32,
+    splices: Splices,
     clips: Clips,
     c: Cursor,
 ) -> AlignedRead
-    ensures { λ r. ⌜ r ≡ fromSoft class alphabet (now (frame .entry)) length rcomp clips (c .at) ⌝ }
+    ensures { λ r. ⌜ r ≡ fromSoft class alphabet (now (frame .entry)) length rcomp splices clips (c .at) ⌝ }
 {
     let at = c.at;
     match read_symbols(frame, alphabet, clips.soft(), c) {
@@ -83,6 +110,7 @@ fn from_soft(
             alphabet,
             length,
             rcomp,
+            splices,
             clips,
             at,
             next,
@@ -97,11 +125,12 @@ fn from_edits(
     alphabet: u32,
     length: u32,
     rcomp: u32,
+    splices: Splices,
     clips: Clips,
     soft_at: usize,
     c: Cursor,
 ) -> AlignedRead
-    ensures { λ r. ⌜ r ≡ fromEdits class alphabet (now (frame .entry)) length rcomp clips «soft_at» (c .at) ⌝ }
+    ensures { λ r. ⌜ r ≡ fromEdits class alphabet (now (frame .entry)) length rcomp splices clips «soft_at» (c .at) ⌝ }
 {
     let at = c.at;
     if class == Unit::P {
@@ -113,7 +142,7 @@ fn from_edits(
             edits: 0,
             edits_at: at,
         };
-        return tally(frame, class, alphabet, block);
+        return tally(frame, class, alphabet, block, splices);
     }
     match read_count(frame, c) {
         CheckedField::Refused(n) => AlignedRead::Refused(n),
@@ -126,14 +155,14 @@ fn from_edits(
                 edits,
                 edits_at: next.at,
             };
-            tally(frame, class, alphabet, block)
+            tally(frame, class, alphabet, block, splices)
         }
     }
 }
 
 // The edits, one by one.
-fn tally(frame: &[u8], class: u32, alphabet: u32, block: Block) -> AlignedRead
-    ensures { λ r. ⌜ r ≡ editsTallied class alphabet (now (frame .entry)) block ⌝ }
+fn tally(frame: &[u8], class: u32, alphabet: u32, block: Block, splices: Splices) -> AlignedRead
+    ensures { λ r. ⌜ r ≡ editsTallied class alphabet (now (frame .entry)) block splices ⌝ }
 {
     let clips = block.clips;
     let edits_at = block.edits_at;
@@ -144,6 +173,7 @@ fn tally(frame: &[u8], class: u32, alphabet: u32, block: Block) -> AlignedRead
         ecigar::check::EditsChecked::Fine { taken, text } => {
             let whole = AlignedBlock {
                 block,
+                splices,
                 taken,
                 text: text + ecigar::clip::clips_len(clips),
                 next: Cursor {

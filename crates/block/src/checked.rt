@@ -2,8 +2,15 @@
 use edits::Block;
 use frame::field::Cursor;
 use frame::field::Field;
+use limits::Limit;
+use unit::Unit;
 ghost use mathlib.Core.Path.{_≡_};
-ghost use Rattle.block.specs.Checked.{lengthAt, rcompAt, countAt};
+ghost use Prim.Native.Nat.{_≤_};
+ghost use Rattle.limits.specs.Limits.{mostPieces};
+ghost use Rattle.block.specs.Checked.{lengthAt, mostRcomp, rcompAt, numberAt, sumIn, lengthsAt, countAt};
+
+// The most pieces of a read over introns.
+const PIECES: u32 = Limit::PIECES as u32;
 
 // A field's value and the place behind it, or the refusal's number.
 pub enum CheckedField {
@@ -27,17 +34,71 @@ pub(crate) fn read_length(frame: &[u8], c: Cursor) -> CheckedField
     CheckedField::Value(v, next)
 }
 
-// Rcomp: 0 or 1.
-pub(crate) fn read_rcomp(frame: &[u8], c: Cursor) -> CheckedField
-    ensures { λ r. ⌜ r ≡ rcompAt (now (frame .entry)) (c .at) ⌝ }
+fn most_rcomp(class: u32) -> u32
+    ensures { λ r. ⌜ r ≡ mostRcomp class ⌝ }
+{
+    if class < Unit::I { 1 } else { 2 }
+}
+
+// Rcomp: 0 or 1, in classes I and HM 2 as well.
+pub(crate) fn read_rcomp(frame: &[u8], class: u32, c: Cursor) -> CheckedField
+    ensures { λ r. ⌜ r ≡ rcompAt class (now (frame .entry)) (c .at) ⌝ }
 {
     let Field::Value(v, next) = frame::bytes::read_u8(frame, c) else {
         return CheckedField::Refused(refusal::MISFRAMED);
     };
-    if 1 < v {
+    if most_rcomp(class) < v {
         return CheckedField::Refused(refusal::FIELD_OUT);
     }
     CheckedField::Value(v, next)
+}
+
+// The number of a read's pieces: 1 to the limit.
+pub(crate) fn read_number(frame: &[u8], c: Cursor) -> CheckedField
+    ensures { λ r. ⌜ r ≡ numberAt (now (frame .entry)) (c .at) ⌝ }
+{
+    let Field::Value(v, next) = frame::bytes::read_u8(frame, c) else {
+        return CheckedField::Refused(refusal::MISFRAMED);
+    };
+    if v < 1 {
+        return CheckedField::Refused(refusal::LENGTH_OUT);
+    }
+    if PIECES < v {
+        return CheckedField::Refused(refusal::LENGTH_OUT);
+    }
+    CheckedField::Value(v, next)
+}
+
+// The lengths of a read's pieces, once all are read.
+fn added_up(length: u32, sum: u32, next: Cursor) -> CheckedField
+    ensures { λ r. ⌜ r ≡ sumIn length sum (next .at) ⌝ }
+{
+    if sum == length {
+        return CheckedField::Value(sum, next);
+    }
+    CheckedField::Refused(refusal::LENGTH_OUT)
+}
+
+// The lengths of so many pieces, none of them 0; refused once all are read where they do not add up to the read length.
+pub(crate) fn read_lengths(frame: &[u8], length: u32, count: u32, c: Cursor) -> CheckedField
+    requires { ⌜ count ≤ mostPieces ⌝ }
+    ensures { λ r. ⌜ r ≡ lengthsAt (now (frame .entry)) length count (c .at) ⌝ }
+{
+    let mut at = c;
+    let mut sum = 0;
+    let mut left = count;
+    while 0 < left {
+        let Field::Value(v, next) = frame::bytes::read_u16(frame, at) else {
+            return CheckedField::Refused(refusal::MISFRAMED);
+        };
+        if v < 1 {
+            return CheckedField::Refused(refusal::LENGTH_OUT);
+        }
+        at = next;
+        sum += v;
+        left -= 1;
+    }
+    added_up(length, sum, at)
 }
 
 // Edit count: 0 to the limit.

@@ -1,17 +1,26 @@
 // The head of an aligned block: its first fields, and the symbols that they ask for. What stands behind it takes no symbol, and is read without the state.
 use crate::checked::CheckedField;
 use crate::checked::read_length;
+use crate::checked::read_lengths;
+use crate::checked::read_number;
 use crate::checked::read_rcomp;
 use frame::field::Cursor;
+use splices::Splices;
+use splices::take::take_pieces;
 use state::State;
+use unit::Unit;
 ghost use mathlib.Core.Path.{_≡_};
-ghost use Rattle.taking.specs.Steps.{stopped, decode};
-ghost use Rattle.block.specs.Head.{headAt, fromRcomp, headMoved};
+ghost use mathlib.Core.List.{List};
+ghost use Prim.Native.Nat.{ℕ, _≤_};
+ghost use Rattle.limits.specs.Limits.{mostPieces};
+ghost use Rattle.taking.specs.Steps.{stopped, came, decode};
+ghost use Rattle.block.specs.Head.{headAt, fromRcomp, fromPieces, fromLengths, spliceSteps, headMoved};
 
-// Read length and rcomp, and the place behind them.
+// Read length, rcomp and the pieces, and the place behind them.
 pub struct BlockHead {
     pub length: u32,
     pub rcomp: u32,
+    pub splices: Splices,
     pub next: Cursor,
 }
 
@@ -35,8 +44,25 @@ fn refused(n: u32, state: State) -> HeadMoved
     }
 }
 
-pub fn read(frame: &[u8], symbols: &[u32], counts: &[u32], state: State, c: Cursor) -> HeadMoved
-    ensures { λ r. ⌜ r ≡ headMoved state (decode (now (symbols .entry)) (now (counts .entry)) state (headAt (now (frame .entry)) (c .at))) ⌝ }
+fn whole(head: BlockHead, next: State) -> HeadMoved
+    ensures { λ r. ⌜ r ≡ headMoved next (came head next) ⌝ }
+{
+    HeadMoved {
+        answer: HeadRead::Whole(head),
+        state: next,
+    }
+}
+
+// Wherever the read maps: neither the symbols that are taken nor their refusals depend on it.
+pub fn read(
+    frame: &[u8],
+    symbols: &[u32],
+    counts: &[u32],
+    state: State,
+    class: u32,
+    c: Cursor,
+) -> HeadMoved
+    ensures { λ r. ⌜ ((position : ℕ) → r ≡ headMoved state (decode (now (symbols .entry)) (now (counts .entry)) state (headAt class (now (frame .entry)) position (c .at)))) ⌝ }
 {
     match read_length(frame, c) {
         CheckedField::Refused(n) => refused(n, state),
@@ -45,35 +71,137 @@ pub fn read(frame: &[u8], symbols: &[u32], counts: &[u32], state: State, c: Curs
             symbols,
             counts,
             state,
+            class,
             length,
             next,
         ),
     }
 }
 
-// Behind rcomp stand the fields that say which symbols the block takes: none today, so the state stays as it is.
 fn from_rcomp(
     frame: &[u8],
     symbols: &[u32],
     counts: &[u32],
     state: State,
+    class: u32,
     length: u32,
     c: Cursor,
 ) -> HeadMoved
-    ensures { λ r. ⌜ r ≡ headMoved state (decode (now (symbols .entry)) (now (counts .entry)) state (fromRcomp (now (frame .entry)) length (c .at))) ⌝ }
+    ensures { λ r. ⌜ ((position : ℕ) → r ≡ headMoved state (decode (now (symbols .entry)) (now (counts .entry)) state (fromRcomp class (now (frame .entry)) position length (c .at)))) ⌝ }
 {
-    match read_rcomp(frame, c) {
+    match read_rcomp(frame, class, c) {
         CheckedField::Refused(n) => refused(n, state),
-        CheckedField::Value(rcomp, next) => {
-            let head = BlockHead {
-                length,
-                rcomp,
-                next,
-            };
-            HeadMoved {
-                answer: HeadRead::Whole(head),
-                state,
-            }
-        }
+        CheckedField::Value(rcomp, next) => from_pieces(
+            frame,
+            symbols,
+            counts,
+            state,
+            class,
+            length,
+            rcomp,
+            next,
+        ),
     }
+}
+
+// Only classes I and HM have reads over introns.
+fn from_pieces(
+    frame: &[u8],
+    symbols: &[u32],
+    counts: &[u32],
+    state: State,
+    class: u32,
+    length: u32,
+    rcomp: u32,
+    c: Cursor,
+) -> HeadMoved
+    ensures { λ r. ⌜ ((position : ℕ) → r ≡ headMoved state (decode (now (symbols .entry)) (now (counts .entry)) state (fromPieces class (now (frame .entry)) position length rcomp (c .at)))) ⌝ }
+{
+    if class < Unit::I {
+        let head = BlockHead {
+            length,
+            rcomp,
+            splices: Splices::none(),
+            next: c,
+        };
+        return whole(head, state);
+    }
+    match read_number(frame, c) {
+        CheckedField::Refused(n) => refused(n, state),
+        CheckedField::Value(count, next) => from_lengths(
+            frame,
+            symbols,
+            counts,
+            state,
+            length,
+            rcomp,
+            count,
+            next,
+        ),
+    }
+}
+
+fn from_lengths(
+    frame: &[u8],
+    symbols: &[u32],
+    counts: &[u32],
+    state: State,
+    length: u32,
+    rcomp: u32,
+    count: u32,
+    c: Cursor,
+) -> HeadMoved
+    requires { ⌜ (1 ≤ count) × (count ≤ mostPieces) ⌝ }
+    ensures { λ r. ⌜ ((position : ℕ) → r ≡ headMoved state (decode (now (symbols .entry)) (now (counts .entry)) state (fromLengths (now (frame .entry)) position length rcomp count (c .at)))) ⌝ }
+{
+    let lengths_at = c.at;
+    match read_lengths(frame, length, count, c) {
+        CheckedField::Refused(n) => refused(n, state),
+        CheckedField::Value(_, next) => take_symbols(
+            symbols,
+            counts,
+            state,
+            length,
+            rcomp,
+            count,
+            lengths_at,
+            next,
+        ),
+    }
+}
+
+// The symbols of the pieces behind the first, and where they stand.
+fn take_symbols(
+    symbols: &[u32],
+    counts: &[u32],
+    state: State,
+    length: u32,
+    rcomp: u32,
+    count: u32,
+    lengths_at: usize,
+    next: Cursor,
+) -> HeadMoved
+    requires { ⌜ 1 ≤ count ⌝ }
+    ensures { λ r. ⌜ ((frame : List ℕ) (position : ℕ) → r ≡ headMoved state (decode (now (symbols .entry)) (now (counts .entry)) state (spliceSteps frame position length rcomp count «lengths_at» next))) ⌝ }
+{
+    let moved = take_pieces(symbols, counts, state, count - 1);
+    let n = moved.refusal;
+    if n != refusal::FINE {
+        return refused(n, state);
+    }
+    let index = state.index;
+    let splices = Splices {
+        count,
+        lengths_at,
+        codes: index[0],
+        deltas: index[1],
+        places: index[3],
+    };
+    let head = BlockHead {
+        length,
+        rcomp,
+        splices,
+        next,
+    };
+    whole(head, moved.state)
 }

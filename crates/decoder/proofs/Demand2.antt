@@ -1,11 +1,12 @@
 -- Demand 2 in detail: an accepted record is the standard's, and what the lines of a listing are. Each theorem is proved where it is cited from.
 -- Assumes nothing.
 use Prim.Native.Nat.{ℕ, suc, _+_, _<_, _≤_, _^_}
-use mathlib.Core.Path.{_≡_, refl, _∙_, ap}
+use mathlib.Core.Path.{_≡_, refl, sym, _∙_, ap}
 use mathlib.Core.List.{List, []}
 use lib.ListN.{length, getD, take}
 use Rattle.limits.specs.Limits.{recordFields}
 use Rattle.frame.specs.Hex.{unhex}
+use Rattle.frame.proofs.HexLaws.{byte-lt}
 use Rattle.unit.specs.Unit.{mostReference}
 use Rattle.unit.specs.Pairs.{subsequences}
 use Rattle.state.specs.State.{freshState, after}
@@ -17,13 +18,14 @@ use Rattle.bases.proofs.ReadLaws.{getD-letters}
 use Rattle.block.specs.declared.unaligned.UnalignedBlock.{UnalignedBlock}
 use Rattle.segment.specs.Segment.{segmentBytes, alignedBytes, unalignedBytes}
 use Rattle.segment.specs.declared.Placed.{Placed}
-use Rattle.segment.proofs.StandardLaws.{SegmentAccepted, listed-is-table92, listed-operations, listed-counts, listed-reads, listed-end, listed-length, listed-from, listed-place, listed-lent, listed-missing, listed-edit, listed-left, listed-right, listed-letter}
+use Rattle.segment.proofs.StandardLaws.{SegmentAccepted, listed-begins, listed-is-table94, listed-operations, listed-counts, listed-reads, listed-end, listed-pieces, listed-apart, listed-short, listed-length, listed-from, listed-place, listed-lent, listed-missing, listed-edit, listed-left, listed-right, listed-letter}
 use Rattle.taking.proofs.Reading.{decode-reads}
 use Rattle.plan.specs.Plan.{recordSteps, planOf}
 use Rattle.plan.specs.Said.{AlignedIn}
 use Rattle.plan.specs.declared.read.Plan.{Plan}
 use Rattle.plan.specs.declared.read.Planned.the-variants.{Whole}
 use Rattle.plan.proofs.PlanLaws.{first-is-aligned, first-is-plain, second-is-aligned, second-is-plain, second-is-absent}
+use Rattle.plan.proofs.Table62Laws.{first-table62, second-table62, second-takes-none, link-shaped}
 use Rattle.record.specs.Record.{stepOf}
 use Rattle.record.proofs.RecordLaws.{step-taken, said-listed, said-first, said-second, said-aligned}
 use Rattle.listing.specs.Lines.{linesOf, joined}
@@ -46,32 +48,35 @@ use Rattle.decoder.proofs.ListingLaws.{lines-short, listing-bytes, open
 -- ---- an accepted record is the standard's
 
 -- every aligned read that is accepted
-pub read-is-the-standards : (u : Unit) (reference frame : List ℕ) (q : Placed) → SegmentAccepted u reference frame q → StandardRead u reference frame q
+pub read-is-the-standards : (u : Unit) (reference symbols frame : List ℕ) (q : Placed) → ((i : ℕ) → getD frame i 0 < 256) → SegmentAccepted u reference symbols frame q → StandardRead u reference symbols frame q
 unfolding segmentBytes alignedBytes
-read-is-the-standards u reference frame q a =
+read-is-the-standards u reference symbols frame q bytes a =
     record {
       listed = refl;
-      begins = (a .place .from, a .place .to);
-      ends = listed-end u reference frame q a;
-      ecigar = listed-is-table92 u reference frame q a;
-      operations = listed-operations u reference frame q a;
-      counts = listed-counts u reference frame q a;
-      uses-up = listed-reads u reference frame q a;
-      long = listed-length u reference frame q a;
-      from = listed-from u reference frame q a;
-      inside = listed-place u reference frame q a;
-      matching = listed-lent u reference frame q a;
-      padded = listed-missing u reference frame q a;
-      edited = listed-edit u reference frame q a;
-      left-clip = listed-left u reference frame q a;
-      right-clip = listed-right u reference frame q a;
-      letters = listed-letter u reference frame q a;
+      begins = listed-begins u reference symbols frame q a;
+      ends = listed-end u reference symbols frame q a;
+      pieces-inside = listed-pieces u reference symbols frame q a;
+      pieces-apart = listed-apart u reference symbols frame q a;
+      ecigar = listed-is-table94 u reference symbols frame q a;
+      short = listed-short u reference symbols frame q a bytes;
+      operations = listed-operations u reference symbols frame q a;
+      counts = listed-counts u reference symbols frame q a;
+      uses-up = listed-reads u reference symbols frame q a;
+      long = listed-length u reference symbols frame q a;
+      from = listed-from u reference symbols frame q a;
+      inside = listed-place u reference symbols frame q a;
+      matching = listed-lent u reference symbols frame q a;
+      padded = listed-missing u reference symbols frame q a;
+      edited = listed-edit u reference symbols frame q a;
+      left-clip = listed-left u reference symbols frame q a;
+      right-clip = listed-right u reference symbols frame q a;
+      letters = listed-letter u reference symbols frame q a;
     }
 
 -- and every read that is not aligned
-pub unaligned-is-the-standards : (u : Unit) (reference frame : List ℕ) (s : UnalignedBlock) → StandardUnaligned u reference frame s
+pub unaligned-is-the-standards : (u : Unit) (reference symbols frame : List ℕ) (s : UnalignedBlock) → StandardUnaligned u reference symbols frame s
 unfolding segmentBytes unalignedBytes
-unaligned-is-the-standards u reference frame s = record { listed = refl; letters = getD-letters (u .alphabet) frame (s .at) (s .length) }
+unaligned-is-the-standards u reference symbols frame s = record { listed = refl; letters = getD-letters (u .alphabet) frame (s .at) (s .length) }
 
 -- the record of every call that is accepted
 pub accepted-is-the-standards : (u : Unit) (reference symbols counts : List ℕ) (state : State) (line frame : List ℕ) (next : State) → stepOf u reference symbols counts state line ≡ accepted frame next
@@ -81,22 +86,28 @@ accepted-is-the-standards u reference symbols counts state line frame next call 
     let p : Plan = t .plan in
     let said : planOf u reference symbols counts state line .planned ≡ Whole p = t .said in
     let blocks = t .taken .blocks in
+    let reads = decode-reads symbols counts (recordSteps u reference symbols (unhex line)) state (t .plan) (t .moved) (t .taken .steps) in
     record {
       plan = p;
       said = said;
       listed = said-listed u reference symbols counts state line frame next call p said;
       linked = t .taken .linked;
       takes = t .taken .takes;
-      moved = t .next-is ∙ ap (after state) (decode-reads symbols counts (recordSteps u reference (unhex line)) state (t .plan) (t .moved) (t .taken .steps));
-      first-aligned = first-is-aligned u reference (unhex line) symbols counts recordFields _ p _ blocks;
+      takes-pair = t .taken .takes-pair;
+      moved = t .next-is ∙ ap (after state) reads;
+      first-aligned = first-is-aligned u reference symbols counts (unhex line) recordFields _ p _ blocks;
       first-position = λ q e. said-first u reference symbols counts state line frame next call p said q e .1;
-      second-aligned = second-is-aligned u reference (unhex line) symbols counts recordFields _ p _ blocks;
+      second-aligned = second-is-aligned u reference symbols counts (unhex line) recordFields _ p _ blocks;
       second-position = λ q e. said-second u reference symbols counts state line frame next call p said q e .1;
-      first-unaligned = first-is-plain u reference (unhex line) symbols counts recordFields _ p _ blocks;
-      second-unaligned = second-is-plain u reference (unhex line) symbols counts recordFields _ p _ blocks;
-      alone = second-is-absent u reference (unhex line) symbols counts recordFields _ p _ blocks;
-      aligned = λ q i. read-is-the-standards u reference (unhex line) q (said-aligned u reference symbols counts state line frame next call p said q i);
-      unaligned = unaligned-is-the-standards u reference (unhex line);
+      first-unaligned = first-is-plain u reference symbols counts (unhex line) recordFields _ p _ blocks;
+      second-unaligned = second-is-plain u reference symbols counts (unhex line) recordFields _ p _ blocks;
+      between = blocks .middle;
+      first-pieces = λ spliced shape q e. first-table62 u reference symbols counts (unhex line) recordFields _ p _ blocks spliced (link-shaped u reference symbols counts state line p _ (t .taken) shape) q e;
+      second-pieces = λ spliced shape q e. rw (← reads) (second-table62 u reference symbols counts (unhex line) recordFields _ p _ blocks spliced (link-shaped u reference symbols counts state line p _ (t .taken) shape) q e);
+      last-pieces = λ none. sym reads ∙ second-takes-none u reference symbols counts (unhex line) recordFields _ p _ blocks none;
+      alone = second-is-absent u reference symbols counts (unhex line) recordFields _ p _ blocks;
+      aligned = λ q i. read-is-the-standards u reference symbols (unhex line) q (byte-lt line) (said-aligned u reference symbols counts state line frame next call p said q i);
+      unaligned = unaligned-is-the-standards u reference symbols (unhex line);
     }
 
 -- ---- the lines of a listing
@@ -106,7 +117,7 @@ module _ (refFile unitFile : List ℕ) where
   pub every-line-is-well-formed : Each ListingLine (linesListed refFile unitFile)
   every-line-is-well-formed = listing-lines (frontOf refFile unitFile) (front-is-lawful refFile unitFile)
 
-  -- "No 04 line needs more than 20,149 bytes with its 0A", and no other line does
+  -- no 04 line needs more than 20,809 bytes with its 0A, and no other line does
   pub no-line-is-longer : Each (λ l. length l ≤ mostListed + 1) (linesListed refFile unitFile)
   no-line-is-longer = lines-short every-line-is-well-formed
 

@@ -19,6 +19,7 @@ use Rattle.front.proofs.UnitLaws.{UnitFits, unit-fits, unit-valid}
 use Rattle.pairing.specs.Table60.{mateSeqId, mappingPos}
 use Rattle.pairing.proofs.Laws.{link-within}
 use Rattle.segment.specs.declared.Placed.{Placed}
+use Rattle.segment.proofs.StandardLaws.{listed-begins}
 use Rattle.plan.specs.Plan.{planOf}
 use Rattle.plan.specs.Said.{PlanTaken, AlignedIn}
 use Rattle.plan.specs.declared.read.Plan.{Plan}
@@ -109,4 +110,4 @@ module _ {refFile unitFile : List ℕ} (o : Opened refFile unitFile) where
     pub read-position : (q : Placed) → AlignedIn p q → q .position < 2 ^ 32
     read-position q listed =
         let a = said-aligned (o .unit) (o .reference) (tableOf (o .rows)) (countsIn (o .rows)) (r .before) (getD (o .lines) i []) (r .frame) (r .next) (r .call) p said q listed in
-        omega (arith, a .place .to, opened-fits .end)
+        omega (arith, listed-begins (o .unit) (o .reference) (tableOf (o .rows)) (unhex (getD (o .lines) i [])) q a .1, opened-fits .end)

@@ -22,7 +22,7 @@ use Rattle.taking.specs.Reading.{symbolsOf}
 use Rattle.taking.proofs.Reading.{takes-row}
 use Rattle.plan.specs.Plan.{recordSteps, recordTakes}
 use Rattle.record.specs.Record.{stepOf}
-use Rattle.record.proofs.RecordLaws.{step-taken, step-accepted}
+use Rattle.record.proofs.RecordLaws.{step-taken, step-shaped}
 use Rattle.listing.specs.Record.{Setup, Accepted, Lawful}
 use Rattle.listing.specs.Listing.{Front, alone, unpaired, ready, line06, onStep, records, onAccepted, stateBehind, firstOf, restOf, LawfulFront, Finished, lastLine}
 use Rattle.listing.specs.Resuming.{lastFrom}
@@ -43,7 +43,7 @@ module _ (u : Unit) (reference : List ℕ) (rows : List (List ℕ)) (few : Few r
       → take (taken state s) (getD rows s []) ++ symbolsOf s (recordTakes u reference (tableOf rows) state line) ≡ take (taken next s) (getD rows s [])
   step-takes state line frame next i e s known =
       let w = step-taken u reference (tableOf rows) (countsIn rows) state line frame next e in
-      takes-row (tableOf rows) (countsIn rows) (getD rows s []) s (count-at rows s) (symbol-stands rows few all-rows s) (recordSteps u reference (unhex line)) state (w .plan) (w .moved) (rw i known) (w .taken .steps)
+      takes-row (tableOf rows) (countsIn rows) (getD rows s []) s (count-at rows s) (symbol-stands rows few all-rows s) (recordSteps u reference (tableOf rows) (unhex line)) state (w .plan) (w .moved) (rw i known) (w .taken .steps)
       ∙ ap (λ (x : State). take (taken x s) (getD rows s [])) (sym (w .next-is))
 
   -- so do all that follow it
@@ -63,7 +63,7 @@ module _ (u : Unit) (reference : List ℕ) (rows : List (List ℕ)) (few : Few r
       by (refused n) e go = append-nil _
       by (accepted frame next) e go =
           sym (append-assoc (take (taken state s) (getD rows s [])) (symbolsOf s (recordTakes u reference (tableOf rows) state l)) _)
-          ∙ rw (step-takes state l frame next i e s known) (go next (step-accepted u reference (tableOf rows) (countsIn rows) state l frame next e i .indexes))
+          ∙ rw (step-takes state l frame next i e s known) (go next (step-shaped u reference (tableOf rows) (countsIn rows) state l frame next e i))
 
 -- ---- the state behind so many records
 
@@ -192,6 +192,7 @@ module _ {refFile unitFile : List ℕ} (o : Opened refFile unitFile) where
         is = c .is;
         call = c .call;
         number = n;
+        indexes = reached-behind i .indexes;
         index-before = λ s known. index-taken s known i;
         tail = a .tail;
         head = a .head ∙ ap (λ (m : ℕ). listedHead m (reached (suc i)) ++ a .tail) n;

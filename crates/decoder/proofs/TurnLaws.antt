@@ -1,6 +1,6 @@
 -- The laws of a turn's code: what was written at the front is what the turn prints, and the record call has room.
 -- Assumes nothing.
-use Prim.Native.Nat.{ℕ, _+_, _*_, _<_, _≤_}
+use Prim.Native.Nat.{ℕ, _+_, _*_, _^_, _<_, _≤_}
 use native.Mathlib.Omega.{arith}
 use mathlib.Core.Path.{_≡_, ap, _∙_}
 use mathlib.Core.Bool.{Bool, true, false}
@@ -86,19 +86,19 @@ module _ (u : Unit) (reference symbols counts : List ℕ) (state : State) (line 
   unfolding lentLine
   record-missing h s = rw (eq-eqb (length line) 0 h) s
 
-  module _ (some-line : length line ≡ 0 → ⊥) (shaped : Shaped state) (room : mostListed < length out)
+  module _ (some-line : length line ≡ 0 → ⊥) (fits : u .end < 2 ^ 32) (shaped : Shaped state) (room : mostListed < length out)
       {r : Recorded} {e : List ℕ} (was : (r ≡ recorded state called) × (e ≡ output out called)) where
     pub turn-listed : (n : ℕ) → r .answer ≡ Listed n → Seen state out wanted (record { added = Go n; state = r .state }) e
     unfolding lentLine
     turn-listed n a =
-        let w = record-roomy u reference symbols counts state line (length out) shaped room in
+        let w = record-roomy u reference symbols counts state line (length out) fits shaped room in
         rw (ne-eqb (length line) 0 some-line)
         (listed-step state out n (stepOf u reference symbols counts state line) r e (was .0 ∙ ap (recorded state) w) (was .1 ∙ ap (output out) w) a)
 
     pub turn-refused : (k : ℕ) → r .answer ≡ Refused k → {x : Turned} {g : List ℕ} → Seen state e (stop (line05 (state .number) k)) x g → Seen state out wanted x g
     unfolding lentLine
     turn-refused k a s =
-        let w = record-roomy u reference symbols counts state line (length out) shaped room in
+        let w = record-roomy u reference symbols counts state line (length out) fits shaped room in
         rw (ne-eqb (length line) 0 some-line)
         (refused-step state out k (stepOf u reference symbols counts state line) r e (was .0 ∙ ap (recorded state) w) (was .1 ∙ ap (output out) w) a s)
 

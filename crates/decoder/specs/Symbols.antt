@@ -6,7 +6,7 @@ use mathlib.Core.List.{List, [], _∷_, _++_}
 use lib.ListN.{length, getD}
 use Rattle.frame.specs.Line.{lineOfBytes}
 use Rattle.unit.specs.Pairs.{subsequences}
-use Rattle.state.specs.State.{indexCount, freshState, taken}
+use Rattle.state.specs.State.{indexCount, freshState, Shaped, taken}
 use Rattle.state.specs.Listed.{Step, refused, accepted, listedHead}
 use Rattle.unit.specs.declared.Unit.{Unit}
 use Rattle.state.specs.declared.State.{State}
@@ -44,6 +44,7 @@ pub record RecordLine {refFile unitFile : List ℕ} (o : Opened refFile unitFile
   pub is : line ≡ lineOfBytes frame
   pub call : stepOf (o .unit) (o .reference) (tableOf (o .rows)) (countsIn (o .rows)) before (getD (o .lines) i []) ≡ accepted frame next
   pub number : before .number ≡ i
+  pub indexes : Shaped before
   pub index-before : (s : ℕ) → s < indexCount → taken before s ≡ length (symbolsTaken o s i)
   pub tail : List ℕ
   pub head : frame ≡ listedHead i next ++ tail

@@ -44,7 +44,7 @@ abbrev pub stoppedBy : Wrote → State → Turned
 stoppedBy (wrote.Line n) state = record { added = Stop n; state = state }
 stoppedBy wrote.NoRoom state = record { added = NoRoom; state = state }
 
--- "No 04 line needs more than 20,149 bytes with its 0A; the programs lend as much": where less is lent nothing is done
+-- no 04 line needs more than 20,809 bytes with its 0A, and "the programs lend as much": where less is lent nothing is done
 unfoldable pub turnedOf : List ℕ → State → Turn → Turned
 turnedOf out state t = cond (ltb mostListed (length out)) (turned state t) (record { added = NoRoom; state = state })
 

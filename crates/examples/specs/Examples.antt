@@ -1,4 +1,5 @@
 -- Document 01's small examples 1 to 12, as one table under one statement, `Examples`; proofs/Examples shows it. Each row is a record call, and what the document prints of its answer.
+-- In class I the frames have the number of pieces, 1, and its length behind rcomp (document 02, Wish 1).
 -- Assumes nothing.
 use Prim.Native.Nat.{ℕ, zero, suc, _+_, _-_}
 use Prim.Native.String.{String, len, charAt}
@@ -93,15 +94,15 @@ table =
     -- the unit that document 01 prints: GAACCTNN, 1=A2=C3=
     ∷ row 3 (whole (call printedUnit "03000000660008000002000100000401")) (unhex (text "04000000000000000000000000000000000000010001000000000000000000660000084741414343544e4e0008313d41323d43333d"))
     -- I, length 6, left soft 2, right hard 3, insertions at 1, 2
-    ∷ row 4 (ecigar 6 (call (unit classI 0 1) "03000000640006000002000000000003000000020001010000020100")) (text "(2)1=2+1=[3]")
+    ∷ row 4 (ecigar 6 (call (unit classI 0 1) "03000000640006000100060002000000000003000000020001010000020100")) (text "(2)1=2+1=[3]")
     -- I, length 3, deletions at 1, 1
-    ∷ row 5 (ecigar 3 (call (unit classI 0 1) "0300000064000300000000000000000000020001020000010200")) (text "1=2-2=")
+    ∷ row 5 (ecigar 3 (call (unit classI 0 1) "0300000064000300010003000000000000000000020001020000010200")) (text "1=2-2=")
     -- I, length 3, deletion then substitution G, both at 1
-    ∷ row 6 (ecigar 3 (call (unit classI 0 1) "0300000064000300000000000000000000020001020000010002")) (text "1=1-G1=")
+    ∷ row 6 (ecigar 3 (call (unit classI 0 1) "0300000064000300010003000000000000000000020001020000010002")) (text "1=1-G1=")
     -- I, length 4, insertions at 1, 3
-    ∷ row 7 (ecigar 4 (call (unit classI 0 1) "0300000064000400000000000000000000020001010000030100")) (text "1=1+1=1+")
+    ∷ row 7 (ecigar 4 (call (unit classI 0 1) "0300000064000400010004000000000000000000020001010000030100")) (text "1=1+1=1+")
     -- I, length 3, left soft 1, left hard 2
-    ∷ row 8 (ecigar 3 (call (unit classI 0 1) "03000000640003000001000200000000000000")) (text "(1)2=")
+    ∷ row 8 (ecigar 3 (call (unit classI 0 1) "03000000640003000100030001000200000000000000")) (text "(1)2=")
     -- M, alphabet 1, length 3, symbol 15 at 1
     ∷ row 9 (ecigar 3 (call (unit classM 1 1) "0300000064000300000100010f")) (text "1=-1=")
     -- code 0, value 5, pos 1000: read1First 0, mate 1002
@@ -109,7 +110,7 @@ table =
     -- class U, code 0: two segments, subsequence 1 not touched
     ∷ row 11 (link (call (unit classU 0 2) "0300000000000100000103")) (unhex (text "00010000010002000000000000"))
     -- I, substitution at 1, then deletion at 1: 12
-    ∷ row 12 (ecigar 3 (call (unit classI 0 1) "0300000064000300000000000000000000020001000200010200")) (offsetOut ∷ [])
+    ∷ row 12 (ecigar 3 (call (unit classI 0 1) "0300000064000300010003000000000000000000020001000200010200")) (offsetOut ∷ [])
     ∷ []
 
 -- every row: what the definitions answer is what the document prints

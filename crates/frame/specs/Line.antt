@@ -13,7 +13,7 @@ use Rattle.frame.specs.Steps.{unless}
 use Rattle.frame.specs.declared.line.Line.{Line}
 use Rattle.frame.specs.declared.line.Line.the-variants.{Frame, Malformed}
 
--- the most digits of an input line, those of the longest record: 20,058
+-- the most digits of an input line, those of the longest record: 20,190
 abbrev pub lineDigits : ℕ
 lineDigits = 2 * mostFrame
 

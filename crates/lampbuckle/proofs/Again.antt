@@ -13,7 +13,7 @@ use Rattle.state.specs.Listed.{indexPlace, Step, refused, accepted, stateAt}
 use Rattle.unit.specs.declared.Unit.{Unit}
 use Rattle.state.specs.declared.State.{State}
 use Rattle.record.specs.Record.{stepOf, withRoom, recordOf}
-use Rattle.record.proofs.RecordLaws.{step-accepted}
+use Rattle.record.proofs.RecordLaws.{step-shaped}
 use Rattle.frame.specs.Hex.{unhex}
 use Rattle.frame.specs.Same.{sameList}
 use Rattle.listing.specs.Resuming.{Last, Edges, nothing, edges, onLast, placeBy}
@@ -53,7 +53,7 @@ next-state-again u reference symbols counts numbers line room frame next e = sta
         (λ t.
         let a : accepted g s ≡ accepted frame next = simp t at r in
         let z : s ≡ next = cc in
-        rw (← z) (step-accepted u reference symbols counts (stateOf numbers) line g s q (length-state numbers) .indexes))
+        rw (← z) (step-shaped u reference symbols counts (stateOf numbers) line g s q (length-state numbers)))
         (λ t. absurd (differs (simp t at r)))
       where
         differs : {n : ℕ} → refused n ≡ accepted frame next → ⊥

@@ -55,7 +55,7 @@ frameLast count counts bs =
     (cond (eqb (getD bs 0 0) kindRefused) (cond (eqb (length bs) bytes05) whole bad)
     (cond (eqb (getD bs 0 0) kindDone) (cond (eqb (length bs) bytes06) whole bad) bad))
 
--- "hexadecimal as above, of at most 20,148 digits"
+-- "hexadecimal as above", of at most 20,808 digits
 unfoldable pub lastOf : ℕ → List ℕ → List ℕ → Last
 lastOf count counts line = afterLine bad (lineWithin mostListed line) (frameLast count counts (unhex line))
 

@@ -5,4 +5,5 @@ pub mod RefusalLaws
 pub mod StateLaws
 pub mod QuietLaws
 pub mod PlanLaws
+pub mod Table62Laws
 pub mod MateLaws

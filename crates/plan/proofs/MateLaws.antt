@@ -38,7 +38,7 @@ module _ (u : UnitOf) (reference symbols counts : List ℕ) (state : State) (lin
   near-inside valid taken delta e =
       let two : p .link .segments ≡ mostSegments = rw e at (link-together u symbols counts state (p .link) (taken .linked)) in
       let class : u .class < classHM = aligned-class valid taken (λ z. let y : _≡_ {A = ℕ} 0 1 = cc in omega arith) in
-      rw e at (second-inside u reference (unhex line) symbols counts recordFields _ p moved (taken .blocks) (omega arith) class .1)
+      rw e at (second-inside u reference symbols counts (unhex line) recordFields _ p moved (taken .blocks) (omega arith) class .1)
 
   pub mate-fits : UnitValid u → u .end < 2 ^ 32 → ((at : ℕ) → getD symbols at 0 < 2 ^ 32) → PlanTaken u reference symbols counts state line p moved → mappingPos (p .pos) (p .link .mate) < 2 ^ 32
   mate-fits valid end every taken = by (p .link .mate) refl (link-within u symbols counts state (2 ^ 32) (valid .sequence) every (p .link) (taken .linked) .mate)

@@ -47,7 +47,7 @@ EarlyPlan (Refused n) = Early n
 
 -- ---- what a record line says
 
-module _ (u : UnitOf) (reference frame : List ℕ) where
+module _ (u : UnitOf) (reference symbols frame : List ℕ) where
   finished-early : (p : Plan) (at : ℕ) → Tells Early (nothingLeftOver frame p at)
   unfolding nothingLeftOver
   finished-early p at = one-of (Tells Early) (ltb at (length frame)) _ _ (early tt) tt
@@ -59,32 +59,32 @@ module _ (u : UnitOf) (reference frame : List ℕ) where
   unaligned-early : (at : ℕ) → Tells Early (plainSteps u frame at)
   unaligned-early at = steps-early (plainAt u frame at) (plain-early u frame at)
 
-  aligned-early : (position at : ℕ) → Tells Early (alignedSteps u reference frame position at)
+  aligned-early : (position at : ℕ) → Tells Early (alignedSteps u reference symbols frame position at)
   unfolding alignedSteps
   aligned-early position at =
-      then-tells Early (headAt frame at) (λ head. segmentSteps (placedAt u reference frame position head)) (head-early frame at)
-      (λ head. steps-early (placedAt u reference frame position head) (placed-early u reference frame position head))
+      then-tells Early (headAt (u .class) frame position at) (λ head. segmentSteps (placedAt u reference symbols frame position head)) (head-early (u .class) frame position at)
+      (λ head. steps-early (placedAt u reference symbols frame position head) (placed-early u reference symbols frame position head))
 
-  first-early : (pos at : ℕ) → Tells Early (firstSegment u reference frame pos at)
+  first-early : (pos at : ℕ) → Tells Early (firstSegment u reference symbols frame pos at)
   unfolding firstSegment
   first-early pos at = one-of (Tells Early) (eqb (u .class) classU) _ _ (unaligned-early at) (aligned-early pos at)
 
-  second-early : (link : Link) (pos at : ℕ) → Tells Early (secondSegment u reference frame link pos at)
+  second-early : (link : Link) (pos at : ℕ) → Tells Early (secondSegment u reference symbols frame link pos at)
   unfolding secondSegment
   second-early link pos at = one-of (Tells Early) (ltb (u .class) classHM) _ _ (aligned-early _ at) (unaligned-early at)
 
   module _ (link : Link) where
-    from-second-early : (pos : ℕ) (first : Segment) (at : ℕ) → Tells Early (fromSecond u reference frame link pos first at)
+    from-second-early : (pos : ℕ) (first : Segment) (at : ℕ) → Tells Early (fromSecond u reference symbols frame link pos first at)
     unfolding fromSecond
     from-second-early pos first at =
         one-of (Tells Early) (ltb (link .segments) mostSegments) _ _ (finished-early (plan link pos first Absent) at)
-        (then-tells Early (secondSegment u reference frame link pos at) _ (second-early link pos at) (λ s. finished-early (plan link pos first (s .segment)) (s .next .at)))
+        (then-tells Early (secondSegment u reference symbols frame link pos at) _ (second-early link pos at) (λ s. finished-early (plan link pos first (s .segment)) (s .next .at)))
 
-    from-first-early : (pos at : ℕ) → Tells Early (fromFirst u reference frame link pos at)
+    from-first-early : (pos at : ℕ) → Tells Early (fromFirst u reference symbols frame link pos at)
     unfolding fromFirst
-    from-first-early pos at = then-tells Early (firstSegment u reference frame pos at) _ (first-early pos at) (λ s. from-second-early pos (s .segment) (s .next .at))
+    from-first-early pos at = then-tells Early (firstSegment u reference symbols frame pos at) _ (first-early pos at) (λ s. from-second-early pos (s .segment) (s .next .at))
 
-    pos-early : (at : ℕ) → Tells Early (fromPos u reference frame link at)
+    pos-early : (at : ℕ) → Tells Early (fromPos u reference symbols frame link at)
     unfolding fromPos
     pos-early at =
         by-field (Tells Early) (fieldAt 4 frame at) _ _ (early tt)
@@ -93,7 +93,7 @@ module _ (u : UnitOf) (reference frame : List ℕ) where
         (from-first-early pos (next .at)))
 
   -- every refusal of its steps
-  pub record-early : Tells Early (recordSteps u reference frame)
+  pub record-early : Tells Early (recordSteps u reference symbols frame)
   unfolding recordSteps
   record-early =
       by-field (Tells Early) (fieldAt 1 frame 0) _ _ (early tt)
@@ -106,11 +106,11 @@ module _ (u : UnitOf) (reference frame : List ℕ) where
 
 pub plan-early : (u : UnitOf) (reference symbols counts : List ℕ) (state : State) (line : List ℕ) → EarlyPlan (planOf u reference symbols counts state line .planned)
 unfolding planOf fromKind
-plan-early u reference symbols counts state line = by-line (λ (x : Reading). EarlyPlan (x .planned)) (lineOf line) _ _ (early tt) (by (decode symbols counts state (recordSteps u reference (unhex line))) refl)
+plan-early u reference symbols counts state line = by-line (λ (x : Reading). EarlyPlan (x .planned)) (lineOf line) _ _ (early tt) (by (decode symbols counts state (recordSteps u reference symbols (unhex line))) refl)
   where
-    by : (x : Came Plan) → decode symbols counts state (recordSteps u reference (unhex line)) ≡ x → EarlyPlan (readingBy state x .planned)
+    by : (x : Came Plan) → decode symbols counts state (recordSteps u reference symbols (unhex line)) ≡ x → EarlyPlan (readingBy state x .planned)
     by (came p next) e = tt
-    by (stopped n) e = decode-tells symbols counts Early (recordSteps u reference (unhex line)) state (record-early u reference (unhex line)) n e
+    by (stopped n) e = decode-tells symbols counts Early (recordSteps u reference symbols (unhex line)) state (record-early u reference symbols (unhex line)) n e
 
 -- ---- what is lent
 

@@ -35,58 +35,58 @@ use Rattle.plan.specs.declared.read.Reading.{Reading}
 
 -- ---- which steps
 
-module _ (u : Unit) (reference frame : List ℕ) where
+module _ (u : Unit) (reference symbols frame : List ℕ) where
   module _ (pos at : ℕ) where
-    pub first-plain : u .class ≡ classU → plainSteps u frame at ≡ firstSegment u reference frame pos at
+    pub first-plain : u .class ≡ classU → plainSteps u frame at ≡ firstSegment u reference symbols frame pos at
     unfolding firstSegment
     first-plain h = rw (eq-eqb _ _ h) refl
 
-    pub first-placed : (u .class ≡ classU → ⊥) → alignedSteps u reference frame pos at ≡ firstSegment u reference frame pos at
+    pub first-placed : (u .class ≡ classU → ⊥) → alignedSteps u reference symbols frame pos at ≡ firstSegment u reference symbols frame pos at
     unfolding firstSegment
     first-placed h = rw (ne-eqb _ _ h) refl
 
     module _ (link : Link) where
-      pub second-placed : u .class < classHM → alignedSteps u reference frame (mappingPos pos (link .mate)) at ≡ secondSegment u reference frame link pos at
+      pub second-placed : u .class < classHM → alignedSteps u reference symbols frame (mappingPos pos (link .mate)) at ≡ secondSegment u reference symbols frame link pos at
       unfolding secondSegment
       second-placed h = rw (lt-ltb _ _ h) refl
 
-      pub second-plain : classHM ≤ u .class → plainSteps u frame at ≡ secondSegment u reference frame link pos at
+      pub second-plain : classHM ≤ u .class → plainSteps u frame at ≡ secondSegment u reference symbols frame link pos at
       unfolding secondSegment
       second-plain h = rw (le-ltb _ _ h) refl
 
       module _ (first : Segment) where
-        pub one-segment : link .segments < mostSegments → nothingLeftOver frame (plan link pos first Absent) at ≡ fromSecond u reference frame link pos first at
+        pub one-segment : link .segments < mostSegments → nothingLeftOver frame (plan link pos first Absent) at ≡ fromSecond u reference symbols frame link pos first at
         unfolding fromSecond
         one-segment h = rw (lt-ltb _ _ h) refl
 
-        pub two-segments : mostSegments ≤ link .segments → andThen (secondSegment u reference frame link pos at) (λ s. nothingLeftOver frame (plan link pos first (s .segment)) (s .next .at)) ≡ fromSecond u reference frame link pos first at
+        pub two-segments : mostSegments ≤ link .segments → andThen (secondSegment u reference symbols frame link pos at) (λ s. nothingLeftOver frame (plan link pos first (s .segment)) (s .next .at)) ≡ fromSecond u reference symbols frame link pos first at
         unfolding fromSecond
         two-segments h = rw (le-ltb _ _ h) refl
 
   module _ (link : Link) (at : ℕ) where
-    pub pos-short : fieldAt 4 frame at ≡ Short → refuses misframed ≡ fromPos u reference frame link at
+    pub pos-short : fieldAt 4 frame at ≡ Short → refuses misframed ≡ fromPos u reference symbols frame link at
     unfolding fromPos
     pos-short e = rw e refl
 
     module _ (pos : ℕ) (c : Cursor) (e : fieldAt 4 frame at ≡ Value pos c) where
-      pub pos-out : u .class ≡ classU → (pos ≡ 0 → ⊥) → refuses positionOut ≡ fromPos u reference frame link at
+      pub pos-out : u .class ≡ classU → (pos ≡ 0 → ⊥) → refuses positionOut ≡ fromPos u reference symbols frame link at
       unfolding fromPos
       pos-out h k = rw (e, eq-eqb (u .class) classU h, ne-eqb pos 0 k) refl
 
-      pub pos-in : (u .class ≡ classU → ⊥) ⊎ ((u .class ≡ classU) × (pos ≡ 0)) → fromFirst u reference frame link pos (c .at) ≡ fromPos u reference frame link at
+      pub pos-in : (u .class ≡ classU → ⊥) ⊎ ((u .class ≡ classU) × (pos ≡ 0)) → fromFirst u reference symbols frame link pos (c .at) ≡ fromPos u reference symbols frame link at
       unfolding fromPos
       pos-in h = ⊎-elim (λ k. rw (e, ne-eqb (u .class) classU k) refl) (λ k. rw (e, eq-eqb (u .class) classU (k .0), eq-eqb pos 0 (k .1)) refl) h
 
-  pub kind-short : fieldAt 1 frame 0 ≡ Short → refuses misframed ≡ recordSteps u reference frame
+  pub kind-short : fieldAt 1 frame 0 ≡ Short → refuses misframed ≡ recordSteps u reference symbols frame
   unfolding recordSteps
   kind-short e = rw e refl
 
   module _ (kind : ℕ) (c : Cursor) (e : fieldAt 1 frame 0 ≡ Value kind c) where
-    pub kind-other : (kind ≡ kindRecord → ⊥) → refuses misframed ≡ recordSteps u reference frame
+    pub kind-other : (kind ≡ kindRecord → ⊥) → refuses misframed ≡ recordSteps u reference symbols frame
     unfolding recordSteps
     kind-other h = rw (e, ne-eqb _ _ h) refl
 
-    pub kind-right : kind ≡ kindRecord → andThen (pairSteps u) (λ d. fromPos u reference frame (linkOf d) (c .at)) ≡ recordSteps u reference frame
+    pub kind-right : kind ≡ kindRecord → andThen (pairSteps u) (λ d. fromPos u reference symbols frame (linkOf d) (c .at)) ≡ recordSteps u reference symbols frame
     unfolding recordSteps
     kind-right h = rw (e, eq-eqb _ _ h) refl
 
@@ -122,18 +122,18 @@ module _ (x : SegmentMoved) (u : Unit) (frame symbols counts : List ℕ) (st : S
   plain-moved at y e h = h ∙ settled-moved symbols counts st st y ∙ ap (λ (r : SegmentRead). segmentMoved st (decode symbols counts st (segmentSteps r))) e
 
   module _ (reference : List ℕ) (position at : ℕ) where
-    pub headed : (h : BlockHead) (next : State) (y : SegmentRead) → decode symbols counts st (headAt frame at) ≡ came h next → y ≡ placedAt u reference frame position h → x ≡ segmentSettled y next st
-        → x ≡ segmentMoved st (decode symbols counts st (alignedSteps u reference frame position at))
+    pub headed : (h : BlockHead) (next : State) (y : SegmentRead) → decode symbols counts st (headAt (u .class) frame position at) ≡ came h next → y ≡ placedAt u reference symbols frame position h → x ≡ segmentSettled y next st
+        → x ≡ segmentMoved st (decode symbols counts st (alignedSteps u reference symbols frame position at))
     unfolding alignedSteps
     headed h next y e k q =
         q
         ∙ settled-moved symbols counts next st y
         ∙ ap (λ (r : SegmentRead). segmentMoved st (decode symbols counts next (segmentSteps r))) k
-        ∙ ap (segmentMoved st) (sym (then-goes symbols counts (headAt frame at) (λ head. segmentSteps (placedAt u reference frame position head)) st h next e))
+        ∙ ap (segmentMoved st) (sym (then-goes symbols counts (headAt (u .class) frame position at) (λ head. segmentSteps (placedAt u reference symbols frame position head)) st h next e))
 
-    pub headless : (n : ℕ) → decode symbols counts st (headAt frame at) ≡ stopped n → x ≡ segmentMoved st (stopped n) → x ≡ segmentMoved st (decode symbols counts st (alignedSteps u reference frame position at))
+    pub headless : (n : ℕ) → decode symbols counts st (headAt (u .class) frame position at) ≡ stopped n → x ≡ segmentMoved st (stopped n) → x ≡ segmentMoved st (decode symbols counts st (alignedSteps u reference symbols frame position at))
     unfolding alignedSteps
-    headless n e q = q ∙ ap (segmentMoved st) (sym (then-stops symbols counts (headAt frame at) (λ head. segmentSteps (placedAt u reference frame position head)) st n e))
+    headless n e q = q ∙ ap (segmentMoved st) (sym (then-stops symbols counts (headAt (u .class) frame position at) (λ head. segmentSteps (placedAt u reference symbols frame position head)) st n e))
 
 -- what the steps of a segment came to, by what reading it handed back
 module _ (st : State) (x : Came SegmentAt) (m : SegmentMoved) (is : m ≡ segmentMoved st x) where

@@ -62,23 +62,23 @@ segmentSteps (segment.Refused n) = refuses (segmentNumber (segment.Refused n))
 segmentSteps (segment.Whole p next) = sets record { segment = p; next = next }
 
 -- an aligned segment at a position: the head of its block, which takes the block's symbols, then what stands behind it
-unfoldable pub alignedSteps : Unit → (reference frame : List ℕ) (position at : ℕ) → Steps SegmentAt
-alignedSteps u reference frame position at =
-    andThen (headAt frame at) (λ head. segmentSteps (placedAt u reference frame position head))
+unfoldable pub alignedSteps : Unit → (reference symbols frame : List ℕ) (position at : ℕ) → Steps SegmentAt
+alignedSteps u reference symbols frame position at =
+    andThen (headAt (u .class) frame position at) (λ head. segmentSteps (placedAt u reference symbols frame position head))
 
 -- one that is not aligned takes no symbol
 abbrev pub plainSteps : Unit → (frame : List ℕ) (at : ℕ) → Steps SegmentAt
 plainSteps u frame at = segmentSteps (plainAt u frame at)
 
 -- in U the first block is not aligned; in every other class it is, at pos
-unfoldable pub firstSegment : Unit → (reference frame : List ℕ) (pos at : ℕ) → Steps SegmentAt
-firstSegment u reference frame pos at = cond (eqb (u .class) classU) (plainSteps u frame at) (alignedSteps u reference frame pos at)
+unfoldable pub firstSegment : Unit → (reference symbols frame : List ℕ) (pos at : ℕ) → Steps SegmentAt
+firstSegment u reference symbols frame pos at = cond (eqb (u .class) classU) (plainSteps u frame at) (alignedSteps u reference symbols frame pos at)
 
 -- in P, N, M and I (the classes before HM) the second block is aligned too, at the mate's position; in HM and U it is not.
 -- Together: numberOfAlignedRecordSegments of 10.4.10 is 1 in HM, 0 in U, else the record's segments
-unfoldable pub secondSegment : Unit → (reference frame : List ℕ) → Link → (pos at : ℕ) → Steps SegmentAt
-secondSegment u reference frame link pos at =
-    cond (ltb (u .class) classHM) (alignedSteps u reference frame (mappingPos pos (link .mate)) at) (plainSteps u frame at)
+unfoldable pub secondSegment : Unit → (reference symbols frame : List ℕ) → Link → (pos at : ℕ) → Steps SegmentAt
+secondSegment u reference symbols frame link pos at =
+    cond (ltb (u .class) classHM) (alignedSteps u reference symbols frame (mappingPos pos (link .mate)) at) (plainSteps u frame at)
 
 -- what reading a segment hands back: the segment and the state behind its symbols, or the refusal and the state as it was given
 abbrev pub segmentMoved : (back : State) → Came SegmentAt → SegmentMoved
@@ -86,30 +86,30 @@ segmentMoved back (came s next) = record { answer = segment.Whole (s .segment) (
 segmentMoved back (stopped n) = record { answer = segment.Refused n; state = back }
 
 -- the second block, where the record has two segments; then nothing may be left over
-unfoldable pub fromSecond : Unit → (reference frame : List ℕ) → Link → (pos : ℕ) → Segment → (at : ℕ) → Steps Plan
-fromSecond u reference frame link pos first at =
+unfoldable pub fromSecond : Unit → (reference symbols frame : List ℕ) → Link → (pos : ℕ) → Segment → (at : ℕ) → Steps Plan
+fromSecond u reference symbols frame link pos first at =
     cond (ltb (link .segments) mostSegments) (nothingLeftOver frame (plan link pos first Absent) at)
-    (andThen (secondSegment u reference frame link pos at) (λ s. nothingLeftOver frame (plan link pos first (s .segment)) (s .next .at)))
+    (andThen (secondSegment u reference symbols frame link pos at) (λ s. nothingLeftOver frame (plan link pos first (s .segment)) (s .next .at)))
 
 -- "one block for each segment of the record": what a block takes of the symbols is taken before the next block is read
-unfoldable pub fromFirst : Unit → (reference frame : List ℕ) → Link → (pos at : ℕ) → Steps Plan
-fromFirst u reference frame link pos at =
-    andThen (firstSegment u reference frame pos at) (λ s. fromSecond u reference frame link pos (s .segment) (s .next .at))
+unfoldable pub fromFirst : Unit → (reference symbols frame : List ℕ) → Link → (pos at : ℕ) → Steps Plan
+fromFirst u reference symbols frame link pos at =
+    andThen (firstSegment u reference symbols frame pos at) (λ s. fromSecond u reference symbols frame link pos (s .segment) (s .next .at))
 
 -- pos u32 (0 in class U)
-unfoldable pub fromPos : Unit → (reference frame : List ℕ) → Link → (at : ℕ) → Steps Plan
-fromPos u reference frame link at =
+unfoldable pub fromPos : Unit → (reference symbols frame : List ℕ) → Link → (at : ℕ) → Steps Plan
+fromPos u reference symbols frame link at =
     withField (refuses shortField) 4 frame at (λ pos behind.
     cond (eqb (u .class) classU)
-    (unless (eqb pos 0) (refuses positionOut) (fromFirst u reference frame link pos behind))
-    (fromFirst u reference frame link pos behind))
+    (unless (eqb pos 0) (refuses positionOut) (fromFirst u reference symbols frame link pos behind))
+    (fromFirst u reference symbols frame link pos behind))
 
 -- THE STEPS OF A RECORD: kind (2), then the pair symbols as they are taken, then pos and the blocks
-unfoldable pub recordSteps : Unit → (reference frame : List ℕ) → Steps Plan
-recordSteps u reference frame =
+unfoldable pub recordSteps : Unit → (reference symbols frame : List ℕ) → Steps Plan
+recordSteps u reference symbols frame =
     withField (refuses shortField) 1 frame 0 (λ kind behind.
     unless (eqb kind kindRecord) (refuses misframed)
-    (andThen (pairSteps u) (λ d. fromPos u reference frame (linkOf d) behind)))
+    (andThen (pairSteps u) (λ d. fromPos u reference symbols frame (linkOf d) behind)))
 
 -- "a refusal returns its number with the state it was given"
 abbrev pub refusedReading : (n : ℕ) (back : State) → Reading
@@ -122,7 +122,7 @@ readingBy back (stopped n) = refusedReading n back
 
 -- what the frame says, from a state on
 unfoldable pub fromKind : Unit → (reference symbols counts : List ℕ) → State → (frame : List ℕ) → Reading
-fromKind u reference symbols counts state frame = readingBy state (decode symbols counts state (recordSteps u reference frame))
+fromKind u reference symbols counts state frame = readingBy state (decode symbols counts state (recordSteps u reference symbols frame))
 
 -- a line is lent with its 0A
 unfoldable pub planOf : Unit → (reference symbols counts : List ℕ) → State → (line : List ℕ) → Reading
@@ -131,4 +131,4 @@ planOf u reference symbols counts state line =
 
 -- the symbols that the next record of a unit takes, in order
 abbrev pub recordTakes : Unit → (reference symbols : List ℕ) → State → (line : List ℕ) → List Took
-recordTakes u reference symbols state line = takenIn symbols state (recordSteps u reference (unhex line))
+recordTakes u reference symbols state line = takenIn symbols state (recordSteps u reference symbols (unhex line))

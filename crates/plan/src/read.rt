@@ -99,7 +99,7 @@ fn from_pos(
     link: Link,
     field: Field,
 ) -> Reading
-    ensures { λ r. ⌜ ((at : ℕ) → field ≡ fieldAt 4 (now (frame .entry)) at → r ≡ readingBy back (decode (now (symbols .entry)) (now (counts .entry)) state (fromPos unit (now (reference .entry)) (now (frame .entry)) link at))) ⌝ }
+    ensures { λ r. ⌜ ((at : ℕ) → field ≡ fieldAt 4 (now (frame .entry)) at → r ≡ readingBy back (decode (now (symbols .entry)) (now (counts .entry)) state (fromPos unit (now (reference .entry)) (now (symbols .entry)) (now (frame .entry)) link at))) ⌝ }
 {
     let Field::Value(pos, next) = field else {
         return refused(refusal::MISFRAMED, back);
@@ -135,7 +135,7 @@ fn from_first(
     pos: u32,
     c: Cursor,
 ) -> Reading
-    ensures { λ r. ⌜ r ≡ readingBy back (decode (now (symbols .entry)) (now (counts .entry)) state (fromFirst unit (now (reference .entry)) (now (frame .entry)) link pos (c .at))) ⌝ }
+    ensures { λ r. ⌜ r ≡ readingBy back (decode (now (symbols .entry)) (now (counts .entry)) state (fromFirst unit (now (reference .entry)) (now (symbols .entry)) (now (frame .entry)) link pos (c .at))) ⌝ }
 {
     let moved = first_segment(unit, reference, symbols, counts, state, frame, pos, c);
     let answer = moved.answer;
@@ -171,7 +171,7 @@ fn from_second(
     first: Segment,
     c: Cursor,
 ) -> Reading
-    ensures { λ r. ⌜ r ≡ readingBy back (decode (now (symbols .entry)) (now (counts .entry)) state (fromSecond unit (now (reference .entry)) (now (frame .entry)) link pos first (c .at))) ⌝ }
+    ensures { λ r. ⌜ r ≡ readingBy back (decode (now (symbols .entry)) (now (counts .entry)) state (fromSecond unit (now (reference .entry)) (now (symbols .entry)) (now (frame .entry)) link pos first (c .at))) ⌝ }
 {
     if link.segments < Unit::SEGMENTS {
         return finish(frame, link, pos, first, Segment::Absent, state, back, c);

@@ -51,19 +51,19 @@ pub(crate) fn first_segment(
     pos: u32,
     c: Cursor,
 ) -> SegmentMoved
-    ensures { λ r. ⌜ r ≡ segmentMoved state (decode (now (symbols .entry)) (now (counts .entry)) state (firstSegment unit (now (reference .entry)) (now (frame .entry)) pos (c .at))) ⌝ }
+    ensures { λ r. ⌜ r ≡ segmentMoved state (decode (now (symbols .entry)) (now (counts .entry)) state (firstSegment unit (now (reference .entry)) (now (symbols .entry)) (now (frame .entry)) pos (c .at))) ⌝ }
 {
     if unit.class == Unit::U {
         let plain = segment::read_unaligned(frame, unit, c);
         return settle(plain, state, state);
     }
-    let moved = head::read(frame, symbols, counts, state, c);
+    let moved = head::read(frame, symbols, counts, state, unit.class, c);
     let answer = moved.answer;
     let next = moved.state;
     match answer {
         HeadRead::Refused(n) => refused(n, state),
         HeadRead::Whole(h) => {
-            let placed = segment::read_aligned(frame, unit, reference, pos as u64, h);
+            let placed = segment::read_aligned(frame, unit, reference, symbols, pos as u64, h);
             settle(placed, next, state)
         }
     }
@@ -81,20 +81,20 @@ pub(crate) fn second_segment(
     pos: u32,
     c: Cursor,
 ) -> SegmentMoved
-    ensures { λ r. ⌜ r ≡ segmentMoved state (decode (now (symbols .entry)) (now (counts .entry)) state (secondSegment unit (now (reference .entry)) (now (frame .entry)) link pos (c .at))) ⌝ }
+    ensures { λ r. ⌜ r ≡ segmentMoved state (decode (now (symbols .entry)) (now (counts .entry)) state (secondSegment unit (now (reference .entry)) (now (symbols .entry)) (now (frame .entry)) link pos (c .at))) ⌝ }
 {
     if Unit::HM <= unit.class {
         let plain = segment::read_unaligned(frame, unit, c);
         return settle(plain, state, state);
     }
     let position = link.mate_position(pos);
-    let moved = head::read(frame, symbols, counts, state, c);
+    let moved = head::read(frame, symbols, counts, state, unit.class, c);
     let answer = moved.answer;
     let next = moved.state;
     match answer {
         HeadRead::Refused(n) => refused(n, state),
         HeadRead::Whole(h) => {
-            let placed = segment::read_aligned(frame, unit, reference, position, h);
+            let placed = segment::read_aligned(frame, unit, reference, symbols, position, h);
             settle(placed, next, state)
         }
     }

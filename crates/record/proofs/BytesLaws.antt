@@ -40,26 +40,26 @@ bytes-link sequence pos link =
 -- ---- the whole line
 
 -- what stands behind the head
-abbrev pub tailBytes : Unit → List ℕ → List ℕ → Plan → List ℕ
-tailBytes u reference frame p =
-    linkBytes (u .sequence) (p .pos) (p .link) ++ segmentBytes u reference frame (p .first) ++ segmentBytes u reference frame (p .second)
+abbrev pub tailBytes : Unit → (reference symbols frame : List ℕ) → Plan → List ℕ
+tailBytes u reference symbols frame p =
+    linkBytes (u .sequence) (p .pos) (p .link) ++ segmentBytes u reference symbols frame (p .first) ++ segmentBytes u reference symbols frame (p .second)
 
-module _ (u : Unit) (reference frame : List ℕ) (number : ℕ) (next : State) (p : Plan) where
-  pub listed-head : listedBytes u reference frame number next p ≡ listedHead number next ++ tailBytes u reference frame p
+module _ (u : Unit) (reference symbols frame : List ℕ) (number : ℕ) (next : State) (p : Plan) where
+  pub listed-head : listedBytes u reference symbols frame number next p ≡ listedHead number next ++ tailBytes u reference symbols frame p
   unfolding listedBytes
   listed-head = simp append-assoc
 
-  pub bytes-listed : ReadyPlan u reference frame p → Bytes (listedBytes u reference frame number next p)
+  pub bytes-listed : ReadyPlan u reference symbols frame p → Bytes (listedBytes u reference symbols frame number next p)
   bytes-listed h =
       rw listed-head
-      (bytes-append (listedHead number next) (tailBytes u reference frame p) (bytes-head number next)
+      (bytes-append (listedHead number next) (tailBytes u reference symbols frame p) (bytes-head number next)
       (simp append-assoc
       (bytes-append (linkBytes (u .sequence) (p .pos) (p .link)) _ (bytes-link (u .sequence) (p .pos) (p .link))
-      (bytes-append (segmentBytes u reference frame (p .first)) _ (bytes-segment u reference frame (p .first) (h .first))
-      (bytes-segment u reference frame (p .second) (h .second))))))
+      (bytes-append (segmentBytes u reference symbols frame (p .first)) _ (bytes-segment u reference symbols frame (p .first) (h .first))
+      (bytes-segment u reference symbols frame (p .second) (h .second))))))
 
   -- the bytes before the segments, and those of each segment
-  pub length-listed : Shaped next → ReadyPlan u reference frame p → length (listedBytes u reference frame number next p) ≡ leastListed + segmentLength (p .first) + segmentLength (p .second)
+  pub length-listed : Shaped next → ReadyPlan u reference symbols frame p → length (listedBytes u reference symbols frame number next p) ≡ leastListed + segmentLength (p .first) + segmentLength (p .second)
   unfolding listedBytes
   length-listed all h =
       simp (length-append, length-link) (omega (arith, length-head number next all, h .first-long, h .second-long))

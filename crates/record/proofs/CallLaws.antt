@@ -2,7 +2,7 @@
 -- Assumes nothing.
 use mathlib.Core.Path.{_≡_, sym, ap, _∙_}
 use mathlib.Core.List.{List}
-use Prim.Native.Nat.{ℕ, _<_}
+use Prim.Native.Nat.{ℕ, _^_, _<_}
 use native.Mathlib.Omega.{arith}
 use borrow.Author.Tests.{eq-eqb, ne-eqb}
 use lib.ListN.{length}
@@ -35,7 +35,7 @@ module _ (u : Unit) (reference symbols counts : List ℕ) (state : State) where
   frame-reads line frame f = rw (f .bytes, f .well-formed)
 
   -- what was read of a frame, as a step
-  pub read-step : (frame : List ℕ) {r : Reading} → r ≡ fromKind u reference symbols counts state frame → readStep u reference symbols counts state frame ≡ stepBy u reference frame state (r .state) (r .planned)
+  pub read-step : (frame : List ℕ) {r : Reading} → r ≡ fromKind u reference symbols counts state frame → readStep u reference symbols counts state frame ≡ stepBy u reference symbols frame state (r .state) (r .planned)
   unfolding readStep
   read-step frame e = rw (← e)
 
@@ -64,9 +64,9 @@ module _ (u : Unit) (reference symbols counts : List ℕ) (state : State) {n : �
   number-fits h = let l = lent-taken u (length reference) (length symbols) counts state (sym e ∙ h) in omega (arith, l .in-count, l .unit .records)
 
   -- a frame that was accepted is ready to be written
-  pub frame-ready : (line frame : List ℕ) {r : Reading} {p : Plan} → n ≡ fine → FrameOf line frame → r ≡ fromKind u reference symbols counts state frame → r .planned ≡ Whole p → ReadyPlan u reference frame p
-  frame-ready line frame {r} {p} h f q g =
+  pub frame-ready : (line frame : List ℕ) {r : Reading} {p : Plan} → n ≡ fine → u .end < 2 ^ 32 → FrameOf line frame → r ≡ fromKind u reference symbols counts state frame → r .planned ≡ Whole p → ReadyPlan u reference symbols frame p
+  frame-ready line frame {r} {p} h fits f q g =
       let l = lent-taken u (length reference) (length symbols) counts state (sym e ∙ h) in
       rw (f .bytes)
-      (plan-ready u reference symbols counts state line p (r .state) (l .unit)
+      (plan-ready u reference symbols counts state line p (r .state) (l .unit) fits
       (plan-taken u reference symbols counts state line p (r .state) (sym (q ∙ frame-reads u reference symbols counts state line frame f) ∙ ap (λ (x : Planned). record { planned = x; state = r .state }) g)))

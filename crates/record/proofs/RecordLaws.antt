@@ -3,7 +3,7 @@
 use mathlib.Core.Path.{_≡_, refl, sym, ap, _∙_}
 use mathlib.Core.Logic.{⊎-elim}
 use mathlib.Core.List.{List, _++_}
-use Prim.Native.Nat.{ℕ, _+_, _-_, _*_, _<_, _≤_}
+use Prim.Native.Nat.{ℕ, _+_, _-_, _*_, _^_, _<_, _≤_}
 use native.Mathlib.Omega.{arith}
 use borrow.Author.Tests.{lt-ltb, eqb-true}
 use lib.Dec.{eqb}
@@ -58,7 +58,7 @@ module _ (u : UnitOf) (reference symbols counts : List ℕ) (state : State) (lin
       by-number EarlyStep (lentRefusal u (length reference) (length symbols) counts state) _ _ (lent-early u (length reference) (length symbols) counts state)
       (by (planOf u reference symbols counts state line .planned) (plan-early u reference symbols counts state line)) (λ h. h)
     where
-      by : (x : Planned) → EarlyPlan x → EarlyStep (stepBy u reference (unhex line) state (planOf u reference symbols counts state line .state) x)
+      by : (x : Planned) → EarlyPlan x → EarlyStep (stepBy u reference symbols (unhex line) state (planOf u reference symbols counts state line .state) x)
       by (Whole p) h = tt
       by (Refused n) h = h
 
@@ -75,7 +75,7 @@ pub record StepTaken (u : UnitOf) (reference symbols counts : List ℕ) (state :
   pub moved : State
   pub said : planOf u reference symbols counts state line .planned ≡ Whole plan
   pub taken : PlanTaken u reference symbols counts state line plan moved
-  pub frame-is : frame ≡ listedBytes u reference (unhex line) (state .number) (after state moved) plan
+  pub frame-is : frame ≡ listedBytes u reference symbols (unhex line) (state .number) (after state moved) plan
   pub next-is : next ≡ after state moved
 
 -- the facts that a listing asks of it
@@ -101,7 +101,7 @@ module _ (u : UnitOf) (reference symbols counts : List ℕ) (state : State) (lin
       (λ t. absurd (let e = simp t at q in let z : _≡_ {A = ℕ} 0 1 = cc in omega arith))
     where
       by : LentTaken u (length reference) (length symbols) counts state → (x : Planned) → planOf u reference symbols counts state line .planned ≡ x
-          → stepBy u reference (unhex line) state (planOf u reference symbols counts state line .state) x ≡ accepted frame next → StepTaken u reference symbols counts state line frame next
+          → stepBy u reference symbols (unhex line) state (planOf u reference symbols counts state line .state) x ≡ accepted frame next → StepTaken u reference symbols counts state line frame next
       by l (Refused n) e z = absurd (let y : _≡_ {A = ℕ} 0 1 = cc in omega arith)
       by l (Whole p) e z =
           let moved = planOf u reference symbols counts state line .state in
@@ -116,19 +116,19 @@ module _ (u : UnitOf) (reference symbols counts : List ℕ) (state : State) (lin
           }
 
   listed : (p : Plan) (moved : State) → LentTaken u (length reference) (length symbols) counts state → PlanTaken u reference symbols counts state line p moved
-      → frame ≡ listedBytes u reference (unhex line) (state .number) (after state moved) p → next ≡ after state moved → Shaped state → Listed u counts state line frame next
-  listed p moved lent taken f n shaped =
-      let follows = decode-follows symbols counts (recordSteps u reference (unhex line)) state p moved (taken .steps) in
+      → frame ≡ listedBytes u reference symbols (unhex line) (state .number) (after state moved) p → next ≡ after state moved → u .end < 2 ^ 32 → Shaped state → Listed u counts state line frame next
+  listed p moved lent taken f n fits shaped =
+      let follows = decode-follows symbols counts (recordSteps u reference symbols (unhex line)) state p moved (taken .steps) in
       let shaped-after : Shaped moved = follows .long ∙ shaped in
-      let ready = plan-ready u reference symbols counts state line p moved (lent .unit) taken in
-      let long = length-listed u reference (unhex line) (state .number) (after state moved) p shaped-after ready in
+      let ready = plan-ready u reference symbols counts state line p moved (lent .unit) fits taken in
+      let long = length-listed u reference symbols (unhex line) (state .number) (after state moved) p shaped-after ready in
       rw (f, n)
       record {
         size = taken .size;
         well-formed = taken .well-formed;
-        tail = tailBytes u reference (unhex line) p;
-        head = listed-head u reference (unhex line) (state .number) (after state moved) p;
-        bytes = bytes-listed u reference (unhex line) (state .number) (after state moved) p ready;
+        tail = tailBytes u reference symbols (unhex line) p;
+        head = listed-head u reference symbols (unhex line) (state .number) (after state moved) p;
+        bytes = bytes-listed u reference symbols (unhex line) (state .number) (after state moved) p ready;
         least = omega (arith, long);
         most = omega (arith, long, ready .first-most, ready .second-most);
         in-count = lent .in-count;
@@ -137,8 +137,14 @@ module _ (u : UnitOf) (reference symbols counts : List ℕ) (state : State) (lin
         in-counts = follows-within follows (lent .within);
       }
 
-  pub step-accepted : stepOf u reference symbols counts state line ≡ accepted frame next → Shaped state → Listed u counts state line frame next
-  step-accepted q shaped = let s = step-taken q in listed (s .plan) (s .moved) (s .lent) (s .taken) (s .frame-is) (s .next-is) shaped
+  pub step-accepted : stepOf u reference symbols counts state line ≡ accepted frame next → u .end < 2 ^ 32 → Shaped state → Listed u counts state line frame next
+  step-accepted q fits shaped = let s = step-taken q in listed (s .plan) (s .moved) (s .lent) (s .taken) (s .frame-is) (s .next-is) fits shaped
+
+  -- the next state has as many indexes
+  pub step-shaped : stepOf u reference symbols counts state line ≡ accepted frame next → Shaped state → Shaped next
+  step-shaped q shaped =
+      let s = step-taken q in
+      rw (s .next-is) (decode-follows symbols counts (recordSteps u reference symbols (unhex line)) state (s .plan) (s .moved) (s .taken .steps) .long ∙ shaped)
 
 -- ---- what the line said is listed, and its aligned segments are accepted ones
 
@@ -150,41 +156,41 @@ module _ (u : UnitOf) (reference symbols counts : List ℕ) (state : State) (lin
   plan-is : taken .plan ≡ p
   plan-is = let e : Whole (taken .plan) ≡ Whole p = sym (taken .said) ∙ said in cc
 
-  pub said-listed : frame ≡ listedBytes u reference (unhex line) (state .number) next p
+  pub said-listed : frame ≡ listedBytes u reference symbols (unhex line) (state .number) next p
   said-listed =
       taken .frame-is
-      ∙ ap (λ (x : State). listedBytes u reference (unhex line) (state .number) x (taken .plan)) (sym (taken .next-is))
-      ∙ ap (listedBytes u reference (unhex line) (state .number) next) plan-is
+      ∙ ap (λ (x : State). listedBytes u reference symbols (unhex line) (state .number) x (taken .plan)) (sym (taken .next-is))
+      ∙ ap (listedBytes u reference symbols (unhex line) (state .number) next) plan-is
 
   pub said-taken : PlanTaken u reference symbols counts state line p (planOf u reference symbols counts state line .state)
   said-taken = plan-taken u reference symbols counts state line p _ (ap (λ (x : Planned). record { planned = x; state = planOf u reference symbols counts state line .state }) said)
 
   module _ (q : Placed) where
-    pub said-first : p .first ≡ Aligned q → SegmentAccepted u reference (unhex line) q × (q .position ≡ bigAt 4 (unhex line) 1)
+    pub said-first : p .first ≡ Aligned q → SegmentAccepted u reference symbols (unhex line) q × (q .position ≡ bigAt 4 (unhex line) 1)
     said-first e =
-        let a = first-aligned u reference (unhex line) symbols counts recordFields _ p _ (said-taken .blocks) (taken .lent .unit) q e in
+        let a = first-aligned u reference symbols counts (unhex line) recordFields _ p _ (said-taken .blocks) (taken .lent .unit) q e in
         (a .0, a .1 ∙ said-taken .pos-is)
 
-    pub said-second : p .second ≡ Aligned q → SegmentAccepted u reference (unhex line) q × (q .position ≡ mappingPos (bigAt 4 (unhex line) 1) (p .link .mate))
+    pub said-second : p .second ≡ Aligned q → SegmentAccepted u reference symbols (unhex line) q × (q .position ≡ mappingPos (bigAt 4 (unhex line) 1) (p .link .mate))
     said-second e =
-        let a = second-aligned u reference (unhex line) symbols counts recordFields _ p _ (said-taken .blocks) (taken .lent .unit) q e in
+        let a = second-aligned u reference symbols counts (unhex line) recordFields _ p _ (said-taken .blocks) (taken .lent .unit) q e in
         (a .0, a .1 ∙ ap (λ (pos : ℕ). mappingPos pos (p .link .mate)) (said-taken .pos-is))
 
-    pub said-aligned : AlignedIn p q → SegmentAccepted u reference (unhex line) q
+    pub said-aligned : AlignedIn p q → SegmentAccepted u reference symbols (unhex line) q
     said-aligned i = ⊎-elim (λ e. said-first e .0) (λ e. said-second e .0) i
 
 -- ---- room for the longest line
 
 -- it is enough for every line: 17 is not answered
-pub record-roomy : (u : UnitOf) (reference symbols counts : List ℕ) (state : State) (line : List ℕ) (room : ℕ) → Shaped state → mostListed < room
+pub record-roomy : (u : UnitOf) (reference symbols counts : List ℕ) (state : State) (line : List ℕ) (room : ℕ) → u .end < 2 ^ 32 → Shaped state → mostListed < room
     → recordOf u reference symbols counts state line room ≡ stepOf u reference symbols counts state line
 unfolding recordOf
-record-roomy u reference symbols counts state line room shaped h = by (stepOf u reference symbols counts state line) refl
+record-roomy u reference symbols counts state line room fits shaped h = by (stepOf u reference symbols counts state line) refl
   where
     by : (x : Step) → stepOf u reference symbols counts state line ≡ x → withRoom room x ≡ x
     by (refused n) e = refl
     by (accepted frame next) e =
-        let most = step-accepted u reference symbols counts state line frame next e shaped .most in
+        let most = step-accepted u reference symbols counts state line frame next e fits shaped .most in
         rw (lt-ltb (2 * length frame) room (omega (arith, most)))
 
 -- ---- lines that are not well formed

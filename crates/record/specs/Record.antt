@@ -35,19 +35,19 @@ linkBytes sequence pos link =
     be 1 (link .first) ++ be 1 (link .split) ++ be 1 (link .segments) ++ be 2 (mateSeqId sequence (link .mate)) ++ be 4 (mappingPos pos (link .mate))
 
 -- kind, record number and the indexes after this record; the link; then each segment
-unfoldable pub listedBytes : Unit → (reference frame : List ℕ) (number : ℕ) (next : State) → Plan → List ℕ
-listedBytes u reference frame number next p =
+unfoldable pub listedBytes : Unit → (reference symbols frame : List ℕ) (number : ℕ) (next : State) → Plan → List ℕ
+listedBytes u reference symbols frame number next p =
     listedHead number next
     ++ linkBytes (u .sequence) (p .pos) (p .link)
-    ++ segmentBytes u reference frame (p .first)
-    ++ segmentBytes u reference frame (p .second)
+    ++ segmentBytes u reference symbols frame (p .first)
+    ++ segmentBytes u reference symbols frame (p .second)
 
 -- ---- the call
 
 -- by what the line says: its refusal, or the 04 line and the next state
-abbrev pub stepBy : Unit → (reference frame : List ℕ) (state moved : State) → Planned → Step
-stepBy u reference frame state moved (Refused n) = refused (plannedNumber (Refused n))
-stepBy u reference frame state moved (Whole p) = accepted (listedBytes u reference frame (state .number) (after state moved) p) (after state moved)
+abbrev pub stepBy : Unit → (reference symbols frame : List ℕ) (state moved : State) → Planned → Step
+stepBy u reference symbols frame state moved (Refused n) = refused (plannedNumber (Refused n))
+stepBy u reference symbols frame state moved (Whole p) = accepted (listedBytes u reference symbols frame (state .number) (after state moved) p) (after state moved)
 
 -- what is lent (3, 2, 4, 14), then what the line says (1 to 13): all but the room
 unfoldable pub stepOf : Unit → (reference symbols counts : List ℕ) → State → (line : List ℕ) → Step
@@ -55,7 +55,7 @@ stepOf u reference symbols counts state line =
     let n : ℕ = lentRefusal u (length reference) (length symbols) counts state in
     let r : Reading = planOf u reference symbols counts state line in
     unless (eqb n fine) (refused n)
-    (stepBy u reference (unhex line) state (r .state) (r .planned))
+    (stepBy u reference symbols (unhex line) state (r .state) (r .planned))
 
 -- last 17: the line with its 0A wants one byte more than its digits
 abbrev pub withRoom : (room : ℕ) → Step → Step

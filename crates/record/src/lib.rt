@@ -48,16 +48,17 @@ fn refused(n: u32, state: State) -> Recorded
 fn settle(
     unit: Unit,
     reference: &[u8],
+    symbols: &[u32],
     state: State,
     moved: State,
     frame: &[u8],
     out: &mut [u8],
     p: Plan,
 ) -> Recorded
-    requires { ⌜ ReadyPlan unit (now reference) (now frame) p ⌝ }
+    requires { ⌜ ReadyPlan unit (now reference) (now symbols) (now frame) p ⌝ }
     requires { ⌜ state .number < mostRecords ⌝ }
-    ensures { λ r. ⌜ r ≡ recorded state (withRoom (length (now (out .entry))) (stepBy unit (now (reference .entry)) (now (frame .entry)) state moved (Whole p))) ⌝ }
-    ensures { λ _. ⌜ now (out .exit) ≡ output (now (out .entry)) (withRoom (length (now (out .entry))) (stepBy unit (now (reference .entry)) (now (frame .entry)) state moved (Whole p))) ⌝ }
+    ensures { λ r. ⌜ r ≡ recorded state (withRoom (length (now (out .entry))) (stepBy unit (now (reference .entry)) (now (symbols .entry)) (now (frame .entry)) state moved (Whole p))) ⌝ }
+    ensures { λ _. ⌜ now (out .exit) ≡ output (now (out .entry)) (withRoom (length (now (out .entry))) (stepBy unit (now (reference .entry)) (now (symbols .entry)) (now (frame .entry)) state moved (Whole p))) ⌝ }
 {
     let first = p.first;
     let second = p.second;
@@ -67,7 +68,7 @@ fn settle(
     }
     let mut next = moved;
     next.number = state.number + 1;
-    let end = write::write(out, unit, reference, frame, state.number, next, p);
+    let end = write::write(out, unit, reference, symbols, frame, state.number, next, p);
     out[end] = Line::END;
     Recorded {
         answer: Answer::Listed(end + 1),
@@ -95,7 +96,7 @@ fn of_frame(
     let moved = reading.state;
     match planned {
         Planned::Refused(k) => refused(k, state),
-        Planned::Whole(p) => settle(unit, reference, state, moved, frame, out, p),
+        Planned::Whole(p) => settle(unit, reference, symbols, state, moved, frame, out, p),
     }
 }
 

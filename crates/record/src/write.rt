@@ -56,20 +56,21 @@ pub(crate) fn write(
     out: &mut [u8],
     unit: Unit,
     reference: &[u8],
+    symbols: &[u32],
     frame: &[u8],
     number: u32,
     next: State,
     p: Plan,
 ) -> usize
-    requires { ⌜ ReadyPlan unit (now reference) (now frame) p ⌝ }
-    requires { ⌜ 2 * length (listedBytes unit (now reference) (now frame) number next p) ≤ length (now out) ⌝ }
-    ensures { λ r. ⌜ Laid (now (out .entry)) (now (out .exit)) 0 r (listedBytes unit (now (reference .entry)) (now (frame .entry)) number next p) ⌝ }
+    requires { ⌜ ReadyPlan unit (now reference) (now symbols) (now frame) p ⌝ }
+    requires { ⌜ 2 * length (listedBytes unit (now reference) (now symbols) (now frame) number next p) ≤ length (now out) ⌝ }
+    ensures { λ r. ⌜ Laid (now (out .entry)) (now (out .exit)) 0 r (listedBytes unit (now (reference .entry)) (now (symbols .entry)) (now (frame .entry)) number next p) ⌝ }
 {
     let first = p.first;
     let second = p.second;
     let a = put_head(out, number, next);
     let b = put_link(out, a, unit, p.pos, p.link);
-    let c = segment_write::write(out, b, frame, unit, reference, first);
-    let d = segment_write::write(&mut out[c..], 0, frame, unit, reference, second);
+    let c = segment_write::write(out, b, frame, unit, reference, symbols, first);
+    let d = segment_write::write(&mut out[c..], 0, frame, unit, reference, symbols, second);
     c + d
 }

@@ -1,3 +1,7 @@
+pub mod OneLaws
+pub mod PiecedLaws
+pub mod PlacedLaws
+pub mod ChoiceLaws
 pub mod SegmentLaws
 pub mod PlaceLaws
 pub mod WriteLaws

@@ -26,11 +26,11 @@ module _ (x : SegmentRead) (answer number : ℕ) (go : SegmentRead) where
 
 -- ---- a block
 
-module _ (x : SegmentRead) (u : Unit) (reference frame : List ℕ) (position : ℕ) (answer spec : AlignedRead) where
-  pub blocked : (a : AlignedBlock) → answer ≡ spec → answer ≡ block.Whole a → x ≡ placed u reference frame position a → x ≡ afterBlock u reference frame position spec
+module _ (x : SegmentRead) (u : Unit) (reference symbols frame : List ℕ) (position : ℕ) (answer spec : AlignedRead) where
+  pub blocked : (a : AlignedBlock) → answer ≡ spec → answer ≡ block.Whole a → x ≡ placed u reference symbols frame position a → x ≡ afterBlock u reference symbols frame position spec
   blocked a e h k = rw (← e, h) k
 
-  pub unblocked : (n : ℕ) → answer ≡ spec → answer ≡ block.Refused n → x ≡ segment.Refused n → x ≡ afterBlock u reference frame position spec
+  pub unblocked : (n : ℕ) → answer ≡ spec → answer ≡ block.Refused n → x ≡ segment.Refused n → x ≡ afterBlock u reference symbols frame position spec
   unblocked n e h k = rw (← e, h) k
 
 module _ (x : SegmentRead) (answer spec : UnalignedRead) where

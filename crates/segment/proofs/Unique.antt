@@ -11,8 +11,8 @@ use Rattle.segment.specs.code.Length.{segmentLength}
 use Rattle.segment.specs.declared.Segment.{Segment}
 use Rattle.segment.specs.declared.SegmentRead.{SegmentRead}
 
-pub read-aligned-once : (u : Unit) (reference frame : List ℕ) (position : ℕ) (h : BlockHead) {x y : SegmentRead} → x ≡ placedAt u reference frame position h → y ≡ placedAt u reference frame position h → x ≡ y
-read-aligned-once u reference frame position h p q = once p q
+pub read-aligned-once : (u : Unit) (reference symbols frame : List ℕ) (position : ℕ) (h : BlockHead) {x y : SegmentRead} → x ≡ placedAt u reference symbols frame position h → y ≡ placedAt u reference symbols frame position h → x ≡ y
+read-aligned-once u reference symbols frame position h p q = once p q
 
 pub read-unaligned-once : (u : Unit) (frame : List ℕ) (at : ℕ) {x y : SegmentRead} → x ≡ plainAt u frame at → y ≡ plainAt u frame at → x ≡ y
 read-unaligned-once u frame at p q = once p q

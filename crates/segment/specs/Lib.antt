@@ -1,4 +1,3 @@
 pub mod Segment
-pub mod Place
 pub mod Listed
 pub mod code

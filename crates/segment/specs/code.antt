@@ -1,2 +1,3 @@
 pub mod Length
+pub mod Whole
 pub mod Ready

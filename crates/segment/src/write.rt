@@ -1,6 +1,7 @@
 // A segment that was read is laid into the rest of the lent line. Nothing can fail here: all was known before the first byte is laid.
 use crate::Placed;
 use crate::Segment;
+use crate::spliced;
 use block::unaligned::UnalignedBlock;
 use unit::Unit;
 use writing::lay::put_bytes;
@@ -11,7 +12,7 @@ ghost use Prim.Native.Nat.{_+_, _*_, _≤_};
 ghost use lib.ListN.{length};
 ghost use Rattle.frame.specs.Hex.{be};
 ghost use Rattle.writing.specs.Lay.{Laid};
-ghost use Rattle.segment.specs.Segment.{alignedBytes, unalignedBytes, segmentBytes};
+ghost use Rattle.segment.specs.Segment.{table94, basesListed, alignedBytes, unalignedBytes, segmentBytes};
 ghost use Rattle.segment.specs.code.Ready.{Ready, ReadyAligned, ReadyUnaligned};
 
 // A segment, from place `at` on.
@@ -21,14 +22,15 @@ pub fn write(
     frame: &[u8],
     unit: Unit,
     reference: &[u8],
+    symbols: &[u32],
     segment: Segment,
 ) -> usize
-    requires { ⌜ Ready unit (now frame) segment ⌝ }
-    requires { ⌜ at + 2 * length (segmentBytes unit (now reference) (now frame) segment) ≤ length (now out) ⌝ }
-    ensures { λ r. ⌜ Laid (now (out .entry)) (now (out .exit)) at r (segmentBytes unit (now (reference .entry)) (now (frame .entry)) segment) ⌝ }
+    requires { ⌜ Ready unit (now symbols) (now frame) segment ⌝ }
+    requires { ⌜ at + 2 * length (segmentBytes unit (now reference) (now symbols) (now frame) segment) ≤ length (now out) ⌝ }
+    ensures { λ r. ⌜ Laid (now (out .entry)) (now (out .exit)) at r (segmentBytes unit (now (reference .entry)) (now (symbols .entry)) (now (frame .entry)) segment) ⌝ }
 {
     match segment {
-        Segment::Aligned(p) => write_aligned(out, at, frame, unit, reference, p),
+        Segment::Aligned(p) => write_aligned(out, at, frame, unit, reference, symbols, p),
         Segment::Unaligned(s) => write_unaligned(out, at, frame, unit, s),
         Segment::Absent => at,
     }
@@ -55,30 +57,70 @@ fn write_aligned(
     frame: &[u8],
     unit: Unit,
     reference: &[u8],
+    symbols: &[u32],
     p: Placed,
 ) -> usize
-    requires { ⌜ ReadyAligned unit (now frame) p ⌝ }
-    requires { ⌜ at + 2 * length (alignedBytes unit (now reference) (now frame) p) ≤ length (now out) ⌝ }
-    ensures { λ r. ⌜ Laid (now (out .entry)) (now (out .exit)) at r (alignedBytes unit (now (reference .entry)) (now (frame .entry)) p) ⌝ }
+    requires { ⌜ ReadyAligned unit (now symbols) (now frame) p ⌝ }
+    requires { ⌜ at + 2 * length (alignedBytes unit (now reference) (now symbols) (now frame) p) ≤ length (now out) ⌝ }
+    ensures { λ r. ⌜ Laid (now (out .entry)) (now (out .exit)) at r (alignedBytes unit (now (reference .entry)) (now (symbols .entry)) (now (frame .entry)) p) ⌝ }
 {
     let block = p.block;
-    let class = unit.class;
-    let alphabet = unit.alphabet;
     let fields = head(p.position, block.rcomp, block.length);
     let a = put_bytes(out, at, &fields);
-    let b = bases::write(
-        out,
-        a,
-        reference,
-        unit.first,
-        alphabet,
-        p.position,
-        frame,
-        class,
-        block,
-    );
+    let b = put_read(out, a, frame, unit, reference, symbols, p);
     let c = put_u16(out, b, p.text);
-    ecigar::text::write(out, c, frame, class, alphabet, block)
+    put_text(out, c, frame, unit, symbols, p)
+}
+
+// The read's bases.
+fn put_read(
+    out: &mut [u8],
+    at: usize,
+    frame: &[u8],
+    unit: Unit,
+    reference: &[u8],
+    symbols: &[u32],
+    p: Placed,
+) -> usize
+    requires { ⌜ ReadyAligned unit (now symbols) (now frame) p ⌝ }
+    requires { ⌜ at + 2 * length (basesListed unit (now reference) (now symbols) (now frame) p) ≤ length (now out) ⌝ }
+    ensures { λ r. ⌜ Laid (now (out .entry)) (now (out .exit)) at r (basesListed unit (now (reference .entry)) (now (symbols .entry)) (now (frame .entry)) p) ⌝ }
+{
+    let splices = p.splices;
+    if splices.pieces() < 2 {
+        return bases::write(
+            out,
+            at,
+            reference,
+            unit.first,
+            unit.alphabet,
+            p.position,
+            frame,
+            unit.class,
+            p.block,
+        );
+    }
+    spliced::put_bases(out, at, frame, unit, reference, symbols, p)
+}
+
+// Its E-CIGAR.
+fn put_text(
+    out: &mut [u8],
+    at: usize,
+    frame: &[u8],
+    unit: Unit,
+    symbols: &[u32],
+    p: Placed,
+) -> usize
+    requires { ⌜ ReadyAligned unit (now symbols) (now frame) p ⌝ }
+    requires { ⌜ at + 2 * length (table94 unit (now symbols) (now frame) p) ≤ length (now out) ⌝ }
+    ensures { λ r. ⌜ Laid (now (out .entry)) (now (out .exit)) at r (table94 unit (now (symbols .entry)) (now (frame .entry)) p) ⌝ }
+{
+    let splices = p.splices;
+    if splices.pieces() < 2 {
+        return ecigar::text::write(out, at, frame, unit.class, unit.alphabet, p.block);
+    }
+    spliced::put_ecigar(out, at, frame, unit, symbols, p)
 }
 
 fn write_unaligned(out: &mut [u8], at: usize, frame: &[u8], unit: Unit, s: UnalignedBlock) -> usize

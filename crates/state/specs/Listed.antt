@@ -56,7 +56,7 @@ linkFields = 9
 abbrev pub leastListed : ℕ
 leastListed = headBytes + linkFields
 
--- the most digits of a listing line: 20,148; with its 0A an 04 line needs no more than one byte more
+-- the most digits of a listing line: 20,808; with its 0A an 04 line needs no more than one byte more
 abbrev pub mostListed : ℕ
 mostListed = 2 * (leastListed + mostSegments * mostSegmentBytes)
 

@@ -1,4 +1,5 @@
 -- `decoder::record_turn` meets its contract: what the record call answers picks the case, and it has room. Assumes nothing.
+use Prim.Native.Nat.{_^_, _<_}
 use mathlib.Core.Path.{_≡_}
 use lib.ListN.{length}
 use Rattle.decoder.proofs.TurnLaws.{record-missing, turn-listed, turn-refused}
@@ -10,6 +11,10 @@ use Rattle.state.specs.State.{Shaped}
 -- a state has an index for each subsequence
 shaped : (start : tie.Start) → Shaped (start .args .state)
 shaped start = search needs
+
+-- the unit's end has 32 bits
+fits : (start : tie.Start) → start .args .unit .end < 2 ^ 32
+fits start = search needs
 
 refuse-requires : tie.Need-refuse-requires
 refuse-requires c κs = search needs
@@ -42,7 +47,7 @@ returns-2 c =
     let at-if1 = at-record .before .before in
     let at-before = at-if1 .before .before .before .before .before in
     let start = at-before .before in
-    turn-listed _ _ _ _ _ _ _ (at-if1 .if1 .left) (shaped start) (start .pre) (at-record .«record» .ensures) _ (at-answer .answer .given .1)
+    turn-listed _ _ _ _ _ _ _ (at-if1 .if1 .left) (fits start) (shaped start) (start .pre) (at-record .«record» .ensures) _ (at-answer .answer .given .1)
 
 same-length-3 : tie.Need-same-length-3
 same-length-3 c = search needs
@@ -55,7 +60,7 @@ returns-3 c =
     let at-if1 = at-record .before .before in
     let at-before = at-if1 .before .before .before .before .before in
     let start = at-before .before in
-    turn-refused _ _ _ _ _ _ _ (at-if1 .if1 .left) (shaped start) (start .pre) (at-record .«record» .ensures) _ (at-answer2 .answer2 .given .1) (at-refuse2 .refuse2 .ensures)
+    turn-refused _ _ _ _ _ _ _ (at-if1 .if1 .left) (fits start) (shaped start) (start .pre) (at-record .«record» .ensures) _ (at-answer2 .answer2 .given .1) (at-refuse2 .refuse2 .ensures)
 
 pub record-turn-spec : {M : Type 1} → statement M
 record-turn-spec =

@@ -12,10 +12,10 @@ use Rattle.segment.specs.code.Ready.{Ready}
 use Rattle.plan.specs.declared.read.Plan.{Plan}
 
 -- both segments are ready, and as long as was counted
-pub record ReadyPlan (u : Unit) (reference frame : List ℕ) (p : Plan) : Type 0 where
-  pub first : Ready u frame (p .first)
-  pub second : Ready u frame (p .second)
-  pub first-long : length (segmentBytes u reference frame (p .first)) ≡ segmentLength (p .first)
-  pub second-long : length (segmentBytes u reference frame (p .second)) ≡ segmentLength (p .second)
+pub record ReadyPlan (u : Unit) (reference symbols frame : List ℕ) (p : Plan) : Type 0 where
+  pub first : Ready u symbols frame (p .first)
+  pub second : Ready u symbols frame (p .second)
+  pub first-long : length (segmentBytes u reference symbols frame (p .first)) ≡ segmentLength (p .first)
+  pub second-long : length (segmentBytes u reference symbols frame (p .second)) ≡ segmentLength (p .second)
   pub first-most : segmentLength (p .first) ≤ mostSegmentBytes
   pub second-most : segmentLength (p .second) ≤ mostSegmentBytes

@@ -1,10 +1,15 @@
 -- `record::of_frame` meets its contract: what was read refuses, or is settled. Assumes nothing.
+use Prim.Native.Nat.{_^_, _<_}
 use mathlib.Core.Path.{refl}
 use denote.Ref.{now}
 use Rattle.record.proofs.CallLaws.{read-step, number-fits, frame-ready}
 use borrow.Author.Needs.{needs}
 use Rattle.record.proofs.of_frame.Statement.{statement}
 use Rattle.record.proofs.of_frame.Tie as tie
+
+-- the unit's end has 32 bits
+fits : (s : tie.Start) → s .args .unit .end < 2 ^ 32
+fits s = search needs
 
 read-requires : tie.Need-read-requires
 read-requires c κs = search needs
@@ -26,7 +31,7 @@ settle-requires c κs =
     let a = s .args in
     let lent = s .pre .0 in
     let framed = s .pre .1 in (
-      frame-ready (a .unit) (now (a .reference)) (now (a .symbols)) (now (a .counts)) (a .state) refl (framed .0) (now (a .frame)) lent (framed .1) (at-read .read .ensures) (at-planned2 .planned2 .given .1),
+      frame-ready (a .unit) (now (a .reference)) (now (a .symbols)) (now (a .counts)) (a .state) refl (framed .0) (now (a .frame)) lent (fits s) (framed .1) (at-read .read .ensures) (at-planned2 .planned2 .given .1),
       number-fits (a .unit) (now (a .reference)) (now (a .symbols)) (now (a .counts)) (a .state) refl lent,
     )
 

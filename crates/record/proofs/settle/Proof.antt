@@ -21,13 +21,13 @@ abbrev next : tie.Start → State
 next s = after (s .args .state) (s .args .moved)
 
 abbrev bytes : tie.Start → List ℕ
-bytes s = listedBytes (s .args .unit) (now (s .args .reference)) (now (s .args .frame)) (s .args .state .number) (next s) (s .args .p)
+bytes s = listedBytes (s .args .unit) (now (s .args .reference)) (now (s .args .symbols)) (now (s .args .frame)) (s .args .state .number) (next s) (s .args .p)
 
 all : (s : tie.Start) → Shaped (s .args .moved)
 all s = search needs
 
 long : (s : tie.Start) → length (bytes s) ≡ leastListed + segmentLength (s .args .p .first) + segmentLength (s .args .p .second)
-long s = length-listed _ _ _ (s .args .state .number) (next s) (s .args .p) (all s) (s .pre .0)
+long s = length-listed _ _ _ _ (s .args .state .number) (next s) (s .args .p) (all s) (s .pre .0)
 
 bytes-requires : tie.Need-bytes-requires
 bytes-requires c κs = search needs
@@ -52,7 +52,7 @@ returns c =
     let at-if1 = c .before in
     let at-bytes2 = at-if1 .before in
     let at-bytes = at-bytes2 .before in
-    let at-before = at-bytes .before .before .before in
+    let at-before = at-bytes .before .before .before .before in
     let s = at-before .before in let w = record-no-room (s .args .state) (next s) (now (s .args .out)) (bytes s) (omega (arith, long s, at-bytes .bytes .ensures, at-bytes2 .bytes2 .ensures, at-if1 .if1 .taken)) in (c .refused .ensures ∙ w .0, w .1)
 
 add-next : tie.Need-add-next
@@ -63,7 +63,7 @@ write-requires c κs =
     let at-if1 = c .before .before in
     let at-bytes2 = at-if1 .before in
     let at-bytes = at-bytes2 .before in
-    let at-before = at-bytes .before .before .before in
+    let at-before = at-bytes .before .before .before .before in
     let s = at-before .before in (s .pre .0, omega (arith, long s, at-bytes .bytes .ensures, at-bytes2 .bytes2 .ensures, at-if1 .if1 .left))
 
 slice-write-out : tie.Need-slice-write-out
@@ -72,11 +72,11 @@ slice-write-out c =
     let at-if1 = at-write .before .before .before in
     let at-bytes2 = at-if1 .before in
     let at-bytes = at-bytes2 .before in
-    let at-before = at-bytes .before .before .before in
+    let at-before = at-bytes .before .before .before .before in
     let s = at-before .before in omega (arith, long s, at-bytes .bytes .ensures, at-bytes2 .bytes2 .ensures, at-if1 .if1 .left, at-write .write .ensures .to, length-laid {xs = bytes s} (at-write .write .ensures))
 
-add-t14 : tie.Need-add-t14
-add-t14 c = search needs
+add-t15 : tie.Need-add-t15
+add-t15 c = search needs
 
 same-length : tie.Need-same-length
 same-length c = simp length-set (length-laid (c .before .before .write .ensures))
@@ -87,7 +87,7 @@ returns-2 c =
     let at-if1 = at-write .before .before .before in
     let at-bytes2 = at-if1 .before in
     let at-bytes = at-bytes2 .before in
-    let at-before = at-bytes .before .before .before in
+    let at-before = at-bytes .before .before .before .before in
     let s = at-before .before in record-room (s .args .state) (next s) _ (bytes s) (omega (arith, long s, at-bytes .bytes .ensures, at-bytes2 .bytes2 .ensures, at-if1 .if1 .left)) (at-write .write .ensures)
 
 pub settle-spec : {M : Type 1} → statement M
@@ -104,6 +104,6 @@ settle-spec =
     add-next
     write-requires
     slice-write-out
-    add-t14
+    add-t15
     same-length
     returns-2)

@@ -24,7 +24,7 @@ pub record FrameOf (line frame : List ℕ) : Type 0 where
 unfoldable pub readStep : Unit → (reference symbols counts : List ℕ) → State → (frame : List ℕ) → Step
 readStep u reference symbols counts state frame =
     let r : Reading = fromKind u reference symbols counts state frame in
-    stepBy u reference frame state (r .state) (r .planned)
+    stepBy u reference symbols frame state (r .state) (r .planned)
 
 -- the bytes of the three arrays: the longest line's frame fits into the last
 abbrev pub shortFrame : ℕ

@@ -38,25 +38,25 @@ checks : (c : tie.After-check)
     → c .check .result ≡ checkOf (start c .args .class) (start c .args .alphabet) (now (start c .args .frame)) (start c .args .block .«edits_at») (start c .args .block .edits) (mappedLength (start c .args .block .length) (start c .args .block .clips))
 checks c = c .check .ensures ∙ ap (λ (r : Run). checkOf (start c .args .class) (start c .args .alphabet) (now (start c .args .frame)) (r .«edits_at») (r .edits) (r .mapped)) (c .before .run-of .ensures)
 
-add-t16 : tie.Need-add-t16
-add-t16 c = let p = c .before .before .before .before .before .before .before .before .args .block .clips in
+add-t17 : tie.Need-add-t17
+add-t17 c = let p = c .before .before .before .before .before .before .before .before .args .block .clips in
     let fit : ClipsFit p = record { left-soft = search needs; left-hard = search needs; right-soft = search needs; right-hard = search needs } in
     let t = text-most _ _ _ _ _ _ _ _ (sym (checks (c .before .before .before .before)) ∙ c .before .before .taken .given .1) in
     omega (arith, c .clips-len .ensures, clips-most p fit)
 
-cast-t17 : tie.Need-cast-t17
-cast-t17 c = search needs
+cast-t18 : tie.Need-cast-t18
+cast-t18 c = search needs
 
 width-requires : tie.Need-width-requires
 width-requires c κs = search needs
 
-mul-t19 : tie.Need-mul-t19
-mul-t19 c = let p = c .before .before .before .before .before .before .before .before .before .args in
+mul-t20 : tie.Need-mul-t20
+mul-t20 c = let p = c .before .before .before .before .before .before .before .before .before .args in
     let f = checked-fine _ _ _ _ _ _ _ _ (sym (checks (c .before .before .before .before .before)) ∙ c .before .before .before .taken .given .1) in
     rw (c .width .ensures) (omega (arith, edits-bytes (p .class) (p .block .edits) (f .few)))
 
-add-t20 : tie.Need-add-t20
-add-t20 c = let p = c .before .before .before .before .before .before .before .before .before .args in
+add-t21 : tie.Need-add-t21
+add-t21 c = let p = c .before .before .before .before .before .before .before .before .before .args in
     rw (c .width .ensures) (omega (arith, behind-fits _ _ _ _ _ _ _ _ (2 ^ 64 - 1) (sym (checks (c .before .before .before .before .before)) ∙ c .before .before .before .taken .given .1) (omega arith) (omega arith)))
 
 returns : tie.Need-returns
@@ -76,10 +76,10 @@ tally-spec =
     enum-known-n
     enum-known-taken
     clips-len-requires
-    add-t16
-    cast-t17
+    add-t17
+    cast-t18
     width-requires
-    mul-t19
-    add-t20
+    mul-t20
+    add-t21
     returns
     returns-2)

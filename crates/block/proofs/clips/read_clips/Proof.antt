@@ -59,26 +59,26 @@ returns-4 : tie.Need-returns-4
 unfolding clipsAt
 returns-4 c = search (value, ended)
 
-cast-t17 : tie.Need-cast-t17
-cast-t17 c =
+cast-t18 : tie.Need-cast-t18
+cast-t18 c =
     let at-left-soft = c .before .before .before .before .before .before .before .before .before .before .before .before .before in
     let at-read-u16 = at-left-soft .before .before in
     omega (arith, value-fits 2 _ _ (at-read-u16 .read-u16 .ensures .1) (at-left-soft .left-soft .given .1))
 
-cast-t18 : tie.Need-cast-t18
-cast-t18 c =
+cast-t19 : tie.Need-cast-t19
+cast-t19 c =
     let at-left-hard = c .before .before .before .before .before .before .before .before .before in
     let at-read-u162 = at-left-hard .before .before in
     omega (arith, value-fits 2 _ _ (at-read-u162 .read-u162 .ensures .1) (at-left-hard .left-hard .given .1))
 
-cast-t19 : tie.Need-cast-t19
-cast-t19 c =
+cast-t20 : tie.Need-cast-t20
+cast-t20 c =
     let at-right-soft = c .before .before .before .before .before in
     let at-read-u163 = at-right-soft .before .before in
     omega (arith, value-fits 2 _ _ (at-read-u163 .read-u163 .ensures .1) (at-right-soft .right-soft .given .1))
 
-cast-t20 : tie.Need-cast-t20
-cast-t20 c = omega (arith, value-fits 2 _ _ (c .before .before .before .read-u164 .ensures .1) (c .before .right-hard .given .1))
+cast-t21 : tie.Need-cast-t21
+cast-t21 c = omega (arith, value-fits 2 _ _ (c .before .before .before .read-u164 .ensures .1) (c .before .right-hard .given .1))
 
 within-requires : tie.Need-within-requires
 within-requires c κs = search needs
@@ -107,9 +107,9 @@ read-clips-spec =
     enum-known-right-hard
     enum-told-4
     returns-4
-    cast-t17
     cast-t18
     cast-t19
     cast-t20
+    cast-t21
     within-requires
     returns-5)

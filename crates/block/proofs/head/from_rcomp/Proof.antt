@@ -1,5 +1,4 @@
 -- `block::head::from_rcomp` meets its contract: each step of the definition follows from what was read. Assumes nothing.
-use Rattle.taking.specs.Steps.{decode}
 use Rattle.block.specs.Head.{fromRcomp}
 use Rattle.block.proofs.Steps.{moved-accepted, moved-rejected}
 use borrow.Author.Needs.{needs}
@@ -18,15 +17,18 @@ refused-requires c κs = search needs
 enum-known-rcomp : tie.Need-enum-known-rcomp
 enum-known-rcomp c = search needs
 
+from-pieces-requires : tie.Need-from-pieces-requires
+from-pieces-requires c κs = search needs
+
 returns : tie.Need-returns
 unfolding fromRcomp
-returns c = search (moved-rejected)
+returns c = λ position. search (moved-rejected)
 
 returns-2 : tie.Need-returns-2
-unfolding fromRcomp decode
-returns-2 c = search (moved-accepted)
+unfolding fromRcomp
+returns-2 c = λ position. search (moved-accepted, c .from-pieces .ensures position)
 
 pub from-rcomp-spec : {M : Type 1} → statement M
 from-rcomp-spec =
     tie.close
-    (tie.spec read-rcomp-requires enum-known-n refused-requires enum-known-rcomp returns returns-2)
+    (tie.spec read-rcomp-requires enum-known-n refused-requires enum-known-rcomp from-pieces-requires returns returns-2)

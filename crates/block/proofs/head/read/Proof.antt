@@ -22,11 +22,11 @@ from-rcomp-requires c κs = search needs
 
 returns : tie.Need-returns
 unfolding headAt
-returns c = search (moved-rejected)
+returns c = λ position. search (moved-rejected)
 
 returns-2 : tie.Need-returns-2
 unfolding headAt
-returns-2 c = search (moved-accepted)
+returns-2 c = λ position. search (moved-accepted, c .from-rcomp .ensures position)
 
 pub read-spec : {M : Type 1} → statement M
 read-spec =

@@ -16,19 +16,19 @@ refused-requires : tie.Need-refused-requires
 refused-requires c κs = search needs
 
 returns : tie.Need-returns
-returns c at read = refused-steps _ _ _ _ _ _ _ (pos-short _ _ _ _ _ (sym read ∙ c .before .enum-told .given .1)) (c .refused .ensures)
+returns c at read = refused-steps _ _ _ _ _ _ _ (pos-short _ _ _ _ _ _ (sym read ∙ c .before .enum-told .given .1)) (c .refused .ensures)
 
 refused-requires-2 : tie.Need-refused-requires-2
 refused-requires-2 c κs = search needs
 
 returns-2 : tie.Need-returns-2
-returns-2 c at read = refused-steps _ _ _ _ _ _ _ (pos-out _ _ _ _ _ _ _ (sym read ∙ c .before .before .before .before .before .field .given .1) (c .before .before .if1 .taken) (c .before .if2 .taken)) (c .refused2 .ensures)
+returns-2 c at read = refused-steps _ _ _ _ _ _ _ (pos-out _ _ _ _ _ _ _ _ (sym read ∙ c .before .before .before .before .before .field .given .1) (c .before .before .if1 .taken) (c .before .if2 .taken)) (c .refused2 .ensures)
 
 from-first-requires : tie.Need-from-first-requires
 from-first-requires c κs = search needs
 
 returns-3 : tie.Need-returns-3
-returns-3 c at read = same-steps _ _ _ _ _ _ _ (pos-in _ _ _ _ _ _ _ (sym read ∙ c .before .before .before .before .field .given .1) (⊎-elim (λ w. inr (w .0 .taken, w .1 .left)) (λ w. inl (w .left)) (c .before .if1 .came))) (c .from-first .ensures)
+returns-3 c at read = same-steps _ _ _ _ _ _ _ (pos-in _ _ _ _ _ _ _ _ (sym read ∙ c .before .before .before .before .field .given .1) (⊎-elim (λ w. inr (w .0 .taken, w .1 .left)) (λ w. inl (w .left)) (c .before .if1 .came))) (c .from-first .ensures)
 
 pub from-pos-spec : {M : Type 1} → statement M
 from-pos-spec =

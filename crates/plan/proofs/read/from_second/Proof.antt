@@ -8,7 +8,7 @@ finish-requires : tie.Need-finish-requires
 finish-requires c κs = search needs
 
 returns : tie.Need-returns
-returns c = same-steps _ _ _ _ _ _ _ (one-segment _ _ _ _ _ _ _ (c .before .if1 .taken)) (c .finish .ensures _ _)
+returns c = same-steps _ _ _ _ _ _ _ (one-segment _ _ _ _ _ _ _ _ (c .before .if1 .taken)) (c .finish .ensures _ _)
 
 second-segment-requires : tie.Need-second-segment-requires
 second-segment-requires c κs = search needs
@@ -27,12 +27,12 @@ finish-requires-2 c κs = search needs
 
 returns-2 : tie.Need-returns-2
 returns-2 c =
-    same-steps _ _ _ _ _ _ _ (two-segments _ _ _ _ _ _ _ (c .before .before .before .before .before .before .if1 .left))
+    same-steps _ _ _ _ _ _ _ (two-segments _ _ _ _ _ _ _ _ (c .before .before .before .before .before .before .if1 .left))
     (steps-stop _ _ _ _ _ _ _ _ (segment-stopped _ _ _ (c .before .before .before .before .before .second-segment .ensures) _ (c .before .before .answer .given .1)) (c .refused .ensures))
 
 returns-3 : tie.Need-returns-3
 returns-3 c =
-    same-steps _ _ _ _ _ _ _ (two-segments _ _ _ _ _ _ _ (c .before .before .before .before .before .before .if1 .left))
+    same-steps _ _ _ _ _ _ _ (two-segments _ _ _ _ _ _ _ _ (c .before .before .before .before .before .before .if1 .left))
     (steps-go-on _ _ _ _ _ _ _ _ _ (segment-came _ _ _ (c .before .before .before .before .before .second-segment .ensures) _ _ (c .before .before .answer2 .given .1)) (c .finish2 .ensures _ _))
 
 pub from-second-spec : {M : Type 1} → statement M

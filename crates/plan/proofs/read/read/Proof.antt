@@ -23,14 +23,14 @@ refused-requires c κs = search needs
 
 returns : tie.Need-returns
 unfolding fromKind
-returns c = refused-steps _ _ _ _ _ _ _ (kind-short _ _ _ (sym (head-kind _ (c .before .before .before .read .ensures)) ∙ c .before .enum-told .given .1)) (c .refused .ensures)
+returns c = refused-steps _ _ _ _ _ _ _ (kind-short _ _ _ _ (sym (head-kind _ (c .before .before .before .read .ensures)) ∙ c .before .enum-told .given .1)) (c .refused .ensures)
 
 refused-requires-2 : tie.Need-refused-requires-2
 refused-requires-2 c κs = search needs
 
 returns-2 : tie.Need-returns-2
 unfolding fromKind
-returns-2 c = refused-steps _ _ _ _ _ _ _ (kind-other _ _ _ _ _ (sym (head-kind _ (c .before .before .before .before .before .read .ensures)) ∙ c .before .before .before .field .given .1) (c .before .if1 .taken)) (c .refused2 .ensures)
+returns-2 c = refused-steps _ _ _ _ _ _ _ (kind-other _ _ _ _ _ _ (sym (head-kind _ (c .before .before .before .before .before .read .ensures)) ∙ c .before .before .before .field .given .1) (c .before .if1 .taken)) (c .refused2 .ensures)
 
 pair-requires : tie.Need-pair-requires
 pair-requires c κs = search needs
@@ -52,7 +52,7 @@ unfolding fromKind
 returns-3 c =
     let read = c .before .before .before .before .before .before .before .before .before .before in
     let pair = c .before .before .before .before .before in
-    same-steps _ _ _ _ _ _ _ (kind-right _ _ _ _ _ (sym (head-kind _ (read .read .ensures)) ∙ c .before .before .before .before .before .before .before .before .field .given .1) (pair .before .if1 .left))
+    same-steps _ _ _ _ _ _ _ (kind-right _ _ _ _ _ _ (sym (head-kind _ (read .read .ensures)) ∙ c .before .before .before .before .before .before .before .before .field .given .1) (pair .before .if1 .left))
     (steps-stop _ _ _ _ _ _ _ _ (pair-stopped _ _ _ _ _ (sym (ap (λ (r : Paired). r .answer) (pair .pair .ensures)) ∙ c .before .before .answer .given .1)) (c .refused3 .ensures))
 
 returns-4 : tie.Need-returns-4
@@ -62,7 +62,7 @@ returns-4 c =
     let pair = c .before .before .before .before .before in
     let field = c .before .before .before .before .before .before .before .before .field .given .1 in
     let w = pair-came _ _ _ _ _ (sym (ap (λ (r : Paired). r .answer) (pair .pair .ensures)) ∙ c .before .before .answer2 .given .1) in
-    same-steps _ _ _ _ _ _ _ (kind-right _ _ _ _ _ (sym (head-kind _ (read .read .ensures)) ∙ field) (pair .before .if1 .left))
+    same-steps _ _ _ _ _ _ _ (kind-right _ _ _ _ _ _ (sym (head-kind _ (read .read .ensures)) ∙ field) (pair .before .if1 .left))
     (steps-go-on _ _ _ _ _ _ _ _ _ (w .is) (rw (w .link-is, ← w .state-is, ← pair .pair .ensures) (c .from-pos .ensures _ (head-pos _ _ _ (read .read .ensures) field))))
 
 pub read-spec : {M : Type 1} → statement M

@@ -16,7 +16,7 @@ settle-requires : tie.Need-settle-requires
 settle-requires c κs = search needs
 
 returns : tie.Need-returns
-returns c = moved-steps _ _ _ _ _ _ (first-plain _ _ _ _ _ (c .before .before .if1 .taken)) (plain-moved _ _ _ _ _ _ _ _ (c .before .read-unaligned .ensures) (c .settle .ensures))
+returns c = moved-steps _ _ _ _ _ _ (first-plain _ _ _ _ _ _ (c .before .before .if1 .taken)) (plain-moved _ _ _ _ _ _ _ _ (c .before .read-unaligned .ensures) (c .settle .ensures))
 
 read-requires : tie.Need-read-requires
 read-requires c κs = search needs
@@ -32,20 +32,20 @@ enum-known-answer-2 c = search needs
 
 read-aligned-requires : tie.Need-read-aligned-requires
 read-aligned-requires c κs =
-    decode-ends _ _ Any (ReadyHead _) (λ at. refl) _ _ (head-ready _ _) _ _ (head-came _ _ _ (c .before .before .before .before .read .ensures) _ (c .before .answer2 .given .1))
+    (decode-ends _ _ Any (ReadyHead _ _) (λ at. refl) _ _ (head-ready _ _ 0 _) _ _ (head-came _ _ _ (c .before .before .before .before .read .ensures 0) _ (c .before .answer2 .given .1)), search needs)
 
 settle-requires-2 : tie.Need-settle-requires-2
 settle-requires-2 c κs = search needs
 
 returns-2 : tie.Need-returns-2
 returns-2 c =
-    moved-steps _ _ _ _ _ _ (first-placed _ _ _ _ _ (c .before .before .before .before .before .before .if1 .left))
-    (headless _ _ _ _ _ _ _ _ _ _ (head-stopped _ _ _ (c .before .before .before .before .before .read .ensures) _ (c .before .before .answer .given .1)) (c .refused .ensures))
+    moved-steps _ _ _ _ _ _ (first-placed _ _ _ _ _ _ (c .before .before .before .before .before .before .if1 .left))
+    (headless _ _ _ _ _ _ _ _ _ _ (head-stopped _ _ _ (c .before .before .before .before .before .read .ensures _) _ (c .before .before .answer .given .1)) (c .refused .ensures))
 
 returns-3 : tie.Need-returns-3
 returns-3 c =
-    moved-steps _ _ _ _ _ _ (first-placed _ _ _ _ _ (c .before .before .before .before .before .before .before .if1 .left))
-    (headed _ _ _ _ _ _ _ _ _ _ _ _ (head-came _ _ _ (c .before .before .before .before .before .before .read .ensures) _ (c .before .before .before .answer2 .given .1)) (c .before .read-aligned .ensures) (c .settle2 .ensures))
+    moved-steps _ _ _ _ _ _ (first-placed _ _ _ _ _ _ (c .before .before .before .before .before .before .before .if1 .left))
+    (headed _ _ _ _ _ _ _ _ _ _ _ _ (head-came _ _ _ (c .before .before .before .before .before .before .read .ensures _) _ (c .before .before .before .answer2 .given .1)) (c .before .read-aligned .ensures) (c .settle2 .ensures))
 
 pub first-segment-spec : {M : Type 1} → statement M
 first-segment-spec =

@@ -15,7 +15,7 @@ use Rattle.record.proofs.write.write.Statement.{statement}
 use Rattle.record.proofs.write.write.Tie as tie
 
 abbrev bytes : tie.Start → Segment → List ℕ
-bytes s = segmentBytes (s .args .unit) (now (s .args .reference)) (now (s .args .frame))
+bytes s = segmentBytes (s .args .unit) (now (s .args .reference)) (now (s .args .symbols)) (now (s .args .frame))
 
 -- room for the four pieces
 room : (s : tie.Start)
@@ -25,7 +25,7 @@ room s = rw zero-add (s .pre .1)
 
 -- the place of each call, from that of the next
 abbrev start-of : tie.After-put-head → tie.Start
-start-of h = h .before .before .before .before .before
+start-of h = h .before .before .before .before .before .before
 
 abbrev head-of : tie.After-put-link → tie.After-put-head
 head-of l = l .before .before .before .before
@@ -34,7 +34,7 @@ abbrev link-of : tie.After-write → tie.After-put-link
 link-of w = w .before .before .before .before
 
 put-head-requires : tie.Need-put-head-requires
-put-head-requires c κs = let r = simp length-append at (room (c .before .before .before .before)) in omega arith
+put-head-requires c κs = let r = simp length-append at (room (c .before .before .before .before .before)) in omega arith
 
 put-link-requires : tie.Need-put-link-requires
 put-link-requires c κs =
@@ -80,7 +80,7 @@ add-result c =
     let l = link-of w in
     let h = head-of l in
     let three = laid-then (laid-then (h .put-head .ensures) (l .put-link .ensures)) (w .write .ensures) in
-    omega (arith, room-next _ three (room (start-of h)), length-laid three, c .before .before .write2 .ensures .to)
+    omega (arith, room-next _ three (room (start-of h)), length-laid three, c .before .before .write2 .ensures .to, start-of h .good .0 .0)
 
 returns : tie.Need-returns
 unfolding listedBytes

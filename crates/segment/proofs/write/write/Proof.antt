@@ -12,7 +12,7 @@ write-aligned-requires : tie.Need-write-aligned-requires
 unfolding segmentBytes
 write-aligned-requires c κs =
     let q = c .before .before .segment .given .1 in
-    let h = c .before .before .before .before .before .before .before .pre in
+    let h = c .before .before .before .before .before .before .before .before .pre in
     (rw q at (h .0), rw q at (h .1))
 
 enum-known-segment-2 : tie.Need-enum-known-segment-2
@@ -22,7 +22,7 @@ write-unaligned-requires : tie.Need-write-unaligned-requires
 unfolding segmentBytes
 write-unaligned-requires c κs =
     let q = c .before .before .segment2 .given .1 in
-    let h = c .before .before .before .before .before .before .before .pre in
+    let h = c .before .before .before .before .before .before .before .before .pre in
     (rw q at (h .0), rw q at (h .1))
 
 enum-told : tie.Need-enum-told

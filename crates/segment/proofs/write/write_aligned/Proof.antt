@@ -5,7 +5,7 @@ use lib.ListN.{length-append}
 use Rattle.frame.proofs.HexLaws.{length-be}
 use Rattle.writing.proofs.LayLaws.{laid-as, laid-then}
 use Rattle.segment.specs.Segment.{alignedBytes}
-use Rattle.segment.proofs.WriteLaws.{ready-text, room-for-next}
+use Rattle.segment.proofs.WriteLaws.{room-for-next}
 use Rattle.segment.proofs.write.write_aligned.Statement.{statement}
 use Rattle.segment.proofs.write.write_aligned.Tie as tie
 
@@ -14,14 +14,14 @@ use Rattle.segment.proofs.write.write_aligned.Tie as tie
 abbrev at-head : tie.After-put-bytes → tie.After-head
 at-head c = c .before .before .before
 
-abbrev at-bytes : tie.After-write → tie.After-put-bytes
+abbrev at-bytes : tie.After-put-read → tie.After-put-bytes
 at-bytes c = c .before .before .before .before
 
-abbrev at-bases : tie.After-put-u16 → tie.After-write
+abbrev at-bases : tie.After-put-u16 → tie.After-put-read
 at-bases c = c .before .before .before .before
 
 abbrev start : tie.After-head → tie.Start
-start c = c .before .before .before .before .before
+start c = c .before .before .before .before .before .before
 
 -- ----
 
@@ -38,30 +38,30 @@ put-bytes-requires c κs =
     let h = simp (length-append, length-be) at (start a .pre .1) in
     rw (a .head .ensures) (simp (length-append, length-be) (omega arith))
 
-write-requires : tie.Need-write-requires
+put-read-requires : tie.Need-put-read-requires
 unfolding alignedBytes
-write-requires c κs =
+put-read-requires c κs =
     let a = c .before .before .before in
     let g = start (at-head a) .pre .0 in
-    ((g .clipped, g .framed), room-for-next _ (laid-as (at-head a .head .ensures) (a .put-bytes .ensures)) (start (at-head a) .pre .1) (simp (length-append, length-be) (omega arith)))
+    (g, room-for-next _ (laid-as (at-head a .head .ensures) (a .put-bytes .ensures)) (start (at-head a) .pre .1) (simp (length-append, length-be) (omega arith)))
 
 put-u16-requires : tie.Need-put-u16-requires
 unfolding alignedBytes
 put-u16-requires c κs =
     let b = c .before .before .before in
     let a = at-bytes b in
-    room-for-next 2 (laid-then (laid-as (at-head a .head .ensures) (a .put-bytes .ensures)) (b .write .ensures)) (start (at-head a) .pre .1)
+    room-for-next 2 (laid-then (laid-as (at-head a .head .ensures) (a .put-bytes .ensures)) (b .put-read .ensures)) (start (at-head a) .pre .1)
     (simp (length-append, length-be) (omega arith))
 
-write-requires-2 : tie.Need-write-requires-2
+put-text-requires : tie.Need-put-text-requires
 unfolding alignedBytes
-write-requires-2 c κs =
+put-text-requires c κs =
     let d = c .before .before .before in
     let b = at-bases d in
     let a = at-bytes b in
     let g = start (at-head a) .pre .0 in
-    let l = laid-then (laid-then (laid-as (at-head a .head .ensures) (a .put-bytes .ensures)) (b .write .ensures)) (d .put-u16 .ensures) in
-    ((g .few, g .framed), (g .sound, rw (ready-text g) (room-for-next _ l (start (at-head a) .pre .1) (simp (length-append, length-be) (omega arith)))))
+    let l = laid-then (laid-then (laid-as (at-head a .head .ensures) (a .put-bytes .ensures)) (b .put-read .ensures)) (d .put-u16 .ensures) in
+    (g, room-for-next _ l (start (at-head a) .pre .1) (simp (length-append, length-be) (omega arith)))
 
 same-length : tie.Need-same-length
 same-length c = search needs
@@ -73,8 +73,8 @@ returns c =
     let b = at-bases d in
     let a = at-bytes b in
     let g = start (at-head a) .pre .0 in
-    rw (← g .text, ← ready-text g)
-    (laid-then (laid-then (laid-then (laid-as (at-head a .head .ensures) (a .put-bytes .ensures)) (b .write .ensures)) (d .put-u16 .ensures)) (c .before .before .write2 .ensures))
+    rw (← g .text)
+    (laid-then (laid-then (laid-then (laid-as (at-head a .head .ensures) (a .put-bytes .ensures)) (b .put-read .ensures)) (d .put-u16 .ensures)) (c .before .before .put-text .ensures))
 
 pub write-aligned-spec : {M : Type 1} → statement M
 write-aligned-spec =
@@ -83,8 +83,8 @@ write-aligned-spec =
     head-requires
     slice-aggregate-put-bytes
     put-bytes-requires
-    write-requires
+    put-read-requires
     put-u16-requires
-    write-requires-2
+    put-text-requires
     same-length
     returns)

@@ -1,0 +1,13 @@
+-- `block::checked::added_up` meets its contract. Assumes nothing.
+use borrow.Author.Tests.{eq-eqb, ne-eqb}
+use Rattle.block.proofs.checked.added_up.Statement.{statement}
+use Rattle.block.proofs.checked.added_up.Tie as tie
+
+returns : tie.Need-returns
+returns c = simp (eq-eqb _ _ (c .if1 .taken))
+
+returns-2 : tie.Need-returns-2
+returns-2 c = simp (ne-eqb _ _ (c .if1 .left))
+
+pub added-up-spec : {M : Type 1} → statement M
+added-up-spec = tie.close (tie.spec returns returns-2)
