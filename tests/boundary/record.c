@@ -128,10 +128,10 @@ static void lines(void)
 static void classes(void)
 {
     static const uint32_t i[] = {4, 0, 1, 2, 100, 100, 109, 1}, u[] = {6, 0, 1, 2, 100, 100, 109, 1}, two[] = {3, 0, 2, 2, 100, 100, 109, 1};
-    by_line("clips reach the read length", i, none, "030000006600040000020000000200000000000000\n", LAMPBUCKLE_CLIPS_OUT);
-    by_line("an edit of type 3", i, none, "03000000660004000000000000000000000100000300\n", LAMPBUCKLE_FIELD_OUT);
-    by_line("a deletion with a symbol", i, none, "03000000660004000000000000000000000100000201\n", LAMPBUCKLE_FIELD_OUT);
-    by_line("a deletion behind a substitution", i, none, "03000000660003000000000000000000000200010000" "00010200\n", LAMPBUCKLE_OFFSET_OUT);
+    by_line("clips reach the read length", i, none, "030000006600040001000400020000000200000000000000\n", LAMPBUCKLE_CLIPS_OUT);
+    by_line("an edit of type 3", i, none, "03000000660004000100040000000000000000000100000300\n", LAMPBUCKLE_FIELD_OUT);
+    by_line("a deletion with a symbol", i, none, "03000000660004000100040000000000000000000100000201\n", LAMPBUCKLE_FIELD_OUT);
+    by_line("a deletion behind a substitution", i, none, "03000000660003000100030000000000000000000200010000" "00010200\n", LAMPBUCKLE_OFFSET_OUT);
     by_line("pos not 0 in class U", u, none, "0300000001000100\n", LAMPBUCKLE_POSITION_OUT);
     by_line("no pair code is left", two, none, line, LAMPBUCKLE_USED_UP);
     by_line("no pair code is left, and nothing behind the kind", two, none, "03\n", LAMPBUCKLE_USED_UP);
@@ -142,6 +142,65 @@ static void classes(void)
     table[LAMPBUCKLE_SYMBOLS] = 65536;
     by_line("a pair value of 65,536", two, one, line, LAMPBUCKLE_VALUE_OUT);
     table[LAMPBUCKLE_SYMBOLS] = 0;
+}
+
+/* A read of class I at 100, forward, of four bases in two pieces of two; and its clips and edit count, of which there are none. */
+#define TWO_PIECES "03" "00000064" "0004" "00" "02" "0002" "0002"
+#define NO_MORE "0000000000000000" "0000" "\n"
+
+/* Pair symbols in the rows' first places: a code, a distance, a position. */
+static void lay_splice(uint32_t code, uint32_t distance, uint32_t position)
+{
+    table[0] = code;
+    table[LAMPBUCKLE_SYMBOLS] = distance;
+    table[3 * LAMPBUCKLE_SYMBOLS] = position;
+}
+
+static const uint32_t class_i[] = {4, 0, 1, 2, 100, 100, 109, 1}, by_distance[LAMPBUCKLE_SUBSEQUENCES] = {1, 1}, by_position[LAMPBUCKLE_SUBSEQUENCES] = {1, 0, 0, 1};
+
+static void pieces(void)
+{
+    by_line("rcomp 3", class_i, none, "03" "00000064" "0004" "03" "00" "\n", LAMPBUCKLE_FIELD_OUT);
+    by_line("no number of pieces", class_i, none, "03" "00000064" "0004" "00" "\n", LAMPBUCKLE_MISFRAMED);
+    by_line("no piece", class_i, none, "03" "00000064" "0004" "00" "00" "\n", LAMPBUCKLE_LENGTH_OUT);
+    by_line("17 pieces", class_i, none, "03" "00000064" "0004" "00" "11" "\n", LAMPBUCKLE_LENGTH_OUT);
+    by_line("a piece of length 0", class_i, none, "03" "00000064" "0004" "00" "02" "0000" "\n", LAMPBUCKLE_LENGTH_OUT);
+    by_line("cut in a length", class_i, none, "03" "00000064" "0004" "00" "02" "0004" "00" "\n", LAMPBUCKLE_MISFRAMED);
+    by_line("lengths below the read length, and no symbol", class_i, none, "03" "00000064" "0004" "00" "02" "0002" "0001" "\n", LAMPBUCKLE_LENGTH_OUT);
+    by_line("a length of 65,535", class_i, none, "03" "00000064" "0004" "00" "02" "ffff" "0005" "\n", LAMPBUCKLE_LENGTH_OUT);
+    by_line("no code of a piece", class_i, none, TWO_PIECES "\n", LAMPBUCKLE_USED_UP);
+    lay_splice(1, 0, 0);
+    by_line("code 1 of a piece", class_i, by_distance, TWO_PIECES "\n", LAMPBUCKLE_CODE_OUT);
+    lay_splice(0, 65536, 0);
+    by_line("no distance of a piece", class_i, by_position, TWO_PIECES "\n", LAMPBUCKLE_USED_UP);
+    by_line("a distance of a piece from 65,536", class_i, by_distance, TWO_PIECES "\n", LAMPBUCKLE_VALUE_OUT);
+    lay_splice(2, 0, 0);
+    by_line("no position of a piece", class_i, by_distance, TWO_PIECES "\n", LAMPBUCKLE_USED_UP);
+    lay_splice(0, 2, 0);
+    by_line("a clip reaches the first piece's length", class_i, by_distance, TWO_PIECES "0002000000000000" "\n", LAMPBUCKLE_CLIPS_OUT);
+    by_line("a clip reaches the last piece's length", class_i, by_distance, TWO_PIECES "0000000000020000" "\n", LAMPBUCKLE_CLIPS_OUT);
+}
+
+static void misplaced_pieces(void)
+{
+    lay_splice(0, 65535, 0);
+    by_line("a piece below 0, and a byte left over", class_i, by_distance, TWO_PIECES "0000000000000000" "0000" "00" "\n", LAMPBUCKLE_POSITION_OUT);
+    lay_splice(0, 0, 0);
+    by_line("a splice of 0", class_i, by_distance, TWO_PIECES NO_MORE, LAMPBUCKLE_POSITION_OUT);
+    lay_splice(2, 0, 4294967295);
+    by_line("a piece behind the unit", class_i, by_position, TWO_PIECES NO_MORE, LAMPBUCKLE_POSITION_OUT);
+    lay_splice(2, 0, 109);
+    by_line("a piece that ends one past AU end", class_i, by_position, TWO_PIECES NO_MORE, LAMPBUCKLE_POSITION_OUT);
+    /* piece by piece: what lies under the first is told before the place of the second */
+    bases[1] = 5;
+    by_line("a reference byte outside the alphabet under the first piece", class_i, by_position, TWO_PIECES NO_MORE, LAMPBUCKLE_SYMBOL_OUT);
+    bases[1] = 1;
+    bases[3] = 5;
+    by_line("the same under the second, which is misplaced", class_i, by_position, TWO_PIECES NO_MORE, LAMPBUCKLE_POSITION_OUT);
+    lay_splice(2, 0, 103);
+    by_line("the same under the second", class_i, by_position, TWO_PIECES NO_MORE, LAMPBUCKLE_SYMBOL_OUT);
+    bases[3] = 3;
+    lay_splice(0, 0, 0);
 }
 
 /* ---- of two faults the first in the Order; each is a slice of a call that is good but for it */
@@ -199,13 +258,52 @@ static void accepted(void)
     table[LAMPBUCKLE_SYMBOLS] = 0;
 }
 
+static void over_introns(void)
+{
+    /* two pieces by a distance of 1, rcomp 2; and 16 of one base each */
+    static const uint32_t next[LAMPBUCKLE_STATE] = {1, 1, 1}, codes[LAMPBUCKLE_SUBSEQUENCES] = {15, 15}, last[LAMPBUCKLE_STATE] = {1, 15, 15}, wide[] = {4, 0, 1, 2, 100, 100, 200, 1};
+    static const char spliced[] = "04" "0000" "00010001" "000000000000000000000000" "010001" "0000" "00000000"
+        "00000064" "02" "0004" "41435441" "0006" "323d312a323d" "\n";
+    lay_splice(0, 2, 0);
+    struct call c = good("two pieces");
+    c.slices[UNIT] = numbers(class_i, LAMPBUCKLE_UNIT);
+    c.slices[COUNTS] = numbers(by_distance, LAMPBUCKLE_SUBSEQUENCES);
+    c.slices[STATE] = becomes(c.slices[STATE], next, 0, sizeof next);
+    c.slices[LINE] = text("03" "00000064" "0004" "02" "02" "0002" "0002" NO_MORE);
+    c.slices[OUT] = becomes(c.slices[OUT], spliced, 0, sizeof spliced - 1);
+    c.answer = sizeof spliced - 1;
+    expect(c);
+    /* every second position, by distances of 1: 15 splices over one position each */
+#define THREE_LENGTHS "0001" "0001" "0001"
+#define THREE_SPLICES "312f313d" "312f313d" "312f313d"
+    static const char most[] = "04" "0000" "000f000f" "000000000000000000000000" "010001" "0000" "00000000"
+        "00000064" "00" "0010" "41474147" "4e4e4e4e4e4e4e4e4e4e4e4e" "003e" "313d" THREE_SPLICES THREE_SPLICES THREE_SPLICES THREE_SPLICES THREE_SPLICES "\n";
+    for (size_t k = 0; k < 15; k++) {
+        table[k] = 0;
+        table[LAMPBUCKLE_SYMBOLS + k] = 2;
+    }
+    c = good("16 pieces");
+    c.slices[UNIT] = numbers(wide, LAMPBUCKLE_UNIT);
+    c.slices[COUNTS] = numbers(codes, LAMPBUCKLE_SUBSEQUENCES);
+    c.slices[STATE] = becomes(c.slices[STATE], last, 0, sizeof last);
+    c.slices[LINE] = text("03" "00000064" "0010" "00" "10" THREE_LENGTHS THREE_LENGTHS THREE_LENGTHS THREE_LENGTHS THREE_LENGTHS "0001" NO_MORE);
+    c.slices[OUT] = becomes(c.slices[OUT], most, 0, sizeof most - 1);
+    c.answer = sizeof most - 1;
+    expect(c);
+    for (size_t k = 0; k < 15; k++)
+        table[LAMPBUCKLE_SYMBOLS + k] = 0;
+}
+
 void record_calls(void)
 {
     memset(room, 'x', sizeof room);
     accepted();
+    over_introns();
     shapes();
     values();
     lines();
     classes();
+    pieces();
+    misplaced_pieces();
     order();
 }

@@ -102,7 +102,7 @@ static void place_shapes(void)
     memcpy(most, "04", 2);
     most[LAMPBUCKLE_LISTED - 1] = '\n';
     static const uint32_t next[LAMPBUCKLE_STATE] = {1};
-    placed("an 04 line of 20,148 digits", 4, first, (struct slice){most, LAMPBUCKLE_LISTED, 1, NULL, 0, 0}, next, LAMPBUCKLE_ON);
+    placed("an 04 line of 20,808 digits", 4, first, (struct slice){most, LAMPBUCKLE_LISTED, 1, NULL, 0, 0}, next, LAMPBUCKLE_ON);
     most[LAMPBUCKLE_LISTED - 1] = '0';
     placed("the front of a longer line", 4, first, (struct slice){most, LAMPBUCKLE_LISTED + 1, 1, NULL, 0, 0}, NULL, -LAMPBUCKLE_OTHER_LAST);
 }

@@ -7,7 +7,7 @@ use crate::model::{BlockModel, UnitModel};
 use crate::rng::Rng;
 use crate::valid::unit_model_of;
 use oracle::limits::*;
-use oracle::{Class, Link, Reference, Refusal, Segment, State, Symbols, Unit, UnitNumbers};
+use oracle::{Class, Link, Reference, Refusal, Segment, State, Symbols, Taker, Unit, UnitNumbers};
 
 /// Everything that is lent to a record call.
 #[derive(Clone, Debug)]
@@ -53,21 +53,27 @@ pub struct SegmentCall {
     pub aligned: bool,
     pub reference: Vec<u8>,
     /// May lie past the last u32, as a mate's position can. Of no meaning to an unaligned block.
-    pub position: u64,
+    pub position: i64,
+    /// What the splices of an aligned block are taken from; no index is above its count.
+    pub symbols: Symbols,
+    pub counts: [u16; SUBSEQUENCES],
+    pub state: State,
     pub frame: Vec<u8>,
     pub offset: usize,
 }
 
 impl SegmentCall {
-    /// The segment and where the next block begins, or the refusal.
-    pub fn expected(&self) -> Result<(Segment, usize), Refusal> {
+    /// The segment, the state after its symbols and where the next block begins, or the refusal.
+    pub fn expected(&self) -> Result<(Segment, State, usize), Refusal> {
         let unit = checked(&self.unit);
-        if self.aligned {
+        let mut taker = Taker::new(&self.symbols, &self.counts, &self.state);
+        let (segment, end) = if self.aligned {
             let reference = Reference::new(unit.first, &self.reference);
-            oracle::aligned_segment(&unit, reference, self.position, &self.frame, self.offset)
+            oracle::aligned_segment(&unit, reference, self.position, &mut taker, &self.frame, self.offset)?
         } else {
-            oracle::unaligned_segment(unit.alphabet, &self.frame, self.offset)
-        }
+            oracle::unaligned_segment(unit.alphabet, &self.frame, self.offset)?
+        };
+        Ok((segment, taker.state, end))
     }
 }
 
@@ -87,7 +93,11 @@ fn some_record(rng: &mut Rng) -> (UnitModel, usize) {
 pub fn record_call(rng: &mut Rng) -> RecordCall {
     let (mut model, record) = some_record(rng);
     let damages = if rng.percent(50) { rng.between(1, 3) } else { 0 };
-    let places: Vec<u64> = (0..damages).map(|_| rng.below(10)).collect();
+    let mut places: Vec<u64> = (0..damages).map(|_| rng.below(10)).collect();
+    if damages > 0 && model.class().has_splices() && rng.percent(50) {
+        // Splices have more that can be wrong than other records.
+        places = vec![0];
+    }
     let times = |from: u64, to: u64| places.iter().filter(|place| (from..to).contains(place)).count();
     for _ in 0..times(0, 5) {
         damage_record(rng, &mut model, record);
@@ -161,11 +171,17 @@ pub fn pair_call(rng: &mut Rng) -> PairCall {
     if rng.percent(50) {
         spoil_symbols(rng, &mut model, record, &mut state);
     }
-    let counts = model.symbols.each_ref().map(|list| list.len() as u16);
+    let counts = counts_of(&model.symbols, &mut state);
+    PairCall { unit: model.unit, symbols: model.symbols, counts, state }
+}
+
+/// The counts of these lists. Damage may have left an index above its count: it is drawn back.
+fn counts_of(symbols: &Symbols, state: &mut State) -> [u16; SUBSEQUENCES] {
+    let counts = symbols.each_ref().map(|list| list.len() as u16);
     for (index, count) in state.indexes.iter_mut().zip(counts) {
         *index = (*index).min(count);
     }
-    PairCall { unit: model.unit, symbols: model.symbols, counts, state }
+    counts
 }
 
 /// Another value, or none, where the record takes a symbol.
@@ -189,7 +205,7 @@ fn spoil_symbols(rng: &mut Rng, model: &mut UnitModel, record: usize, state: &mu
 pub fn segment_call(rng: &mut Rng) -> SegmentCall {
     let (mut model, record) = some_record(rng);
     let number = rng.index(model.records[record].blocks.len());
-    let mut position = u64::from(model.records[record].pos) + delta(&model, record, number);
+    let mut position = i64::from(model.records[record].pos) + delta(&model, record, number);
     let unit = model.unit.clone();
     let damaged = rng.percent(50);
     if damaged && rng.percent(60) {
@@ -200,13 +216,21 @@ pub fn segment_call(rng: &mut Rng) -> SegmentCall {
     let blocks = &model.records[record].blocks;
     let block = blocks.get(number).or(blocks.last()).cloned();
     let aligned = matches!(block, Some(BlockModel::Aligned(_)));
-    let mut frame = block.map_or_else(Default::default, |block| block_frame(model.class(), &block));
+    let mut frame = block.as_ref().map_or_else(Default::default, |block| block_frame(model.class(), block));
     if damaged && rng.percent(50) {
         damage_frame(rng, &model.unit, &mut frame);
     }
     if damaged && rng.percent(30) {
         position = edge_position(rng, &model.unit, position);
     }
+    let mut state = model.state_before(record);
+    if let Some(BlockModel::Aligned(block)) = &block {
+        // The block's own symbols stand behind those of the pair and of the block before.
+        for place in block.splices.iter().rev() {
+            state.indexes[place.subsequence] = place.index as u16;
+        }
+    }
+    let counts = counts_of(&model.symbols, &mut state);
     let before: Vec<u8> = (0..rng.below(9)).map(|_| rng.byte()).collect();
     let behind: Vec<u8> = if rng.percent(50) { (0..rng.below(9)).map(|_| rng.byte()).collect() } else { Vec::new() };
     SegmentCall {
@@ -214,23 +238,26 @@ pub fn segment_call(rng: &mut Rng) -> SegmentCall {
         aligned,
         reference: model.reference,
         position,
+        symbols: model.symbols,
+        counts,
+        state,
         offset: before.len(),
         frame: [before, frame.bytes, behind].concat(),
     }
 }
 
 /// How far behind pos the second block of an aligned class lies.
-fn delta(model: &UnitModel, record: usize, number: usize) -> u64 {
+fn delta(model: &UnitModel, record: usize, number: usize) -> i64 {
     let aligned = !matches!(model.class(), Class::U | Class::HM);
     if number == 0 || !aligned {
         return 0;
     }
     let index = usize::from(model.records[record].before[1]);
-    u64::from(model.symbols[1][index] / 2)
+    i64::from(model.symbols[1][index] / 2)
 }
 
-fn edge_position(rng: &mut Rng, unit: &UnitNumbers, position: u64) -> u64 {
-    let (start, end) = (u64::from(unit.au_start), u64::from(unit.au_end));
-    let past_all = u64::from(u32::MAX) + 1 + rng.below(u64::from(u16::MAX / 2));
-    *rng.pick(&[start.saturating_sub(1), start, end, end + 1, position.saturating_sub(1), position + 1, past_all])
+fn edge_position(rng: &mut Rng, unit: &UnitNumbers, position: i64) -> i64 {
+    let (start, end) = (i64::from(unit.au_start), i64::from(unit.au_end));
+    let past_all = i64::from(u32::MAX) + 1 + rng.below(u64::from(u16::MAX / 2)) as i64;
+    *rng.pick(&[(start - 1).max(0), start, end, end + 1, (position - 1).max(0), position + 1, past_all])
 }

@@ -34,7 +34,7 @@ const UNDAMAGED_FOR_RESUMING: u64 = 60;
 pub fn listing_case(seed: u64, case: u64) -> Files {
     let mut rng = Rng::for_case(seed, case);
     let model = unit_model(&mut rng);
-    let steps = if rng.percent(UNDAMAGED) { Vec::new() } else { steps(&mut rng) };
+    let steps = if rng.percent(UNDAMAGED) { Vec::new() } else { steps(&mut rng, &model) };
     written(&mut rng, model, &steps)
 }
 
@@ -43,7 +43,7 @@ pub fn resume_case(seed: u64, case: u64) -> Files {
     // Other cases than those of the listing under the same seed.
     let mut rng = Rng::for_case(!seed, case);
     let model = unit_model(&mut rng);
-    let steps = if rng.percent(UNDAMAGED_FOR_RESUMING) { Vec::new() } else { steps(&mut rng) };
+    let steps = if rng.percent(UNDAMAGED_FOR_RESUMING) { Vec::new() } else { steps(&mut rng, &model) };
     let mut files = written(&mut rng, model, &steps);
     let listing = oracle::listing(&files.reference, &files.unit);
     files.found = Some(found(&mut rng, &files, &listing));
@@ -76,13 +76,17 @@ enum Step {
 }
 
 /// One step mostly; two or three show which refusal comes first.
-fn steps(rng: &mut Rng) -> Vec<Step> {
+fn steps(rng: &mut Rng, model: &UnitModel) -> Vec<Step> {
     let count = match rng.below(100) {
         0..=54 => 1,
         55..=84 => 2,
         _ => 3,
     };
     let mut steps: Vec<Step> = (0..count).map(|_| step(rng)).collect();
+    // Splices have more than other blocks that can be wrong with the unit as its author means it.
+    if model.class().has_splices() && rng.percent(60) {
+        steps[0] = Step::Model;
+    }
     steps.sort();
     steps
 }

@@ -2,7 +2,7 @@
 
 use crate::model::*;
 use crate::valid::DELTA_MAX;
-use oracle::limits::{EDITS_MAX, READ_LENGTH_MAX, RECORDS_MAX, REFERENCE_MAX};
+use oracle::limits::{EDITS_MAX, PIECES_MAX, READ_LENGTH_MAX, RECORDS_MAX, REFERENCE_MAX, SPLICED_RCOMP_MAX};
 use oracle::Class;
 
 pub struct Feature {
@@ -24,6 +24,11 @@ pub fn features() -> Vec<Feature> {
     features.extend(positions());
     features.extend(references());
     features.extend(record_counts());
+    if Class::I.has_splices() {
+        features.extend(splices());
+        features.extend(splices_and_edits());
+        features.extend(splices_and_places());
+    }
     features
 }
 
@@ -54,10 +59,10 @@ fn pair_codes() -> Vec<Feature> {
     let mut features = Vec::new();
     for code in 0..7 {
         features.push(feature(format!("pair code {code}, aligned"), move |model| {
-            model.class() != Class::U && model.symbols[0].contains(&code)
+            model.class() != Class::U && codes(model).any(|taken| taken == code)
         }));
         features.push(feature(format!("pair code {code}, class U"), move |model| {
-            model.class() == Class::U && model.symbols[0].contains(&code)
+            model.class() == Class::U && codes(model).any(|taken| taken == code)
         }));
     }
     features.push(feature("class U with a sequence id that is no u16", |model| {
@@ -75,8 +80,19 @@ fn pair_codes() -> Vec<Feature> {
     features
 }
 
+/// The pair codes of all records: each one's first symbol of subsequence 0.
+fn codes(model: &UnitModel) -> impl Iterator<Item = u32> + '_ {
+    let paired = model.unit.template_segments == 2 && model.class() != Class::HM;
+    let records = model.records.iter().filter(move |_| paired);
+    records.filter_map(|record| model.symbols[0].get(usize::from(record.before[0])).copied())
+}
+
+/// The values of subsequence 1 that say how far behind the mate lies: of a record of two aligned segments the first.
 fn deltas(model: &UnitModel) -> impl Iterator<Item = u32> + '_ {
-    model.symbols[1].iter().copied().filter(|_| model.class() != Class::HM)
+    let records = model.records.iter().filter(|_| !matches!(model.class(), Class::HM | Class::U));
+    records
+        .filter(|record| record.blocks.len() == 2)
+        .filter_map(|record| model.symbols[1].get(usize::from(record.before[1])).copied())
 }
 
 fn blocks(model: &UnitModel) -> impl Iterator<Item = &BlockModel> {
@@ -191,7 +207,7 @@ fn positions() -> Vec<Feature> {
         feature("a unit of one position", |model| model.unit.au_start == model.unit.au_end),
         feature("a unit over all positions", |model| model.unit.au_start == 0 && model.unit.au_end == u32::MAX),
         feature("a segment that ends at AU end", |model| {
-            first_segments(model).any(|(pos, block)| pos + block.taken() == u64::from(model.unit.au_end) + 1)
+            first_segments(model).any(|(pos, block)| pos + block.reach() == u64::from(model.unit.au_end) + 1)
         }),
     ]
 }
@@ -229,5 +245,162 @@ fn record_counts() -> Vec<Feature> {
         feature("one record", |model| model.records.len() == 1),
         feature("more than 60 records", |model| model.records.len() > 60),
         feature("as many records as there may be", |model| model.records.len() == usize::from(RECORDS_MAX)),
+    ]
+}
+
+/// Blocks of several pieces.
+fn spliced(model: &UnitModel) -> impl Iterator<Item = &AlignedModel> {
+    aligned(model).filter(|block| block.is_spliced())
+}
+
+fn any_spliced(name: impl Into<String>, holds: impl Fn(&AlignedModel) -> bool + 'static) -> Feature {
+    feature(name, move |model| spliced(model).any(&holds))
+}
+
+/// The symbols of a block from one subsequence.
+fn symbols_of<'a>(model: &'a UnitModel, block: &'a AlignedModel, from: usize) -> impl Iterator<Item = u32> + 'a {
+    let places = block.splices.iter().filter(move |place| place.subsequence == from);
+    places.map(move |place| model.symbols[from][place.index])
+}
+
+fn any_symbol(name: &str, from: usize, holds: impl Fn(u32) -> bool + 'static) -> Feature {
+    feature(name, move |model| spliced(model).any(|block| symbols_of(model, block, from).any(&holds)))
+}
+
+fn splices() -> Vec<Feature> {
+    let greatest = 2 * DELTA_MAX as u32;
+    let mut features: Vec<Feature> = (2..=PIECES_MAX)
+        .map(|number| any_spliced(format!("{number} pieces"), move |block| block.piece_count == number))
+        .collect();
+    for class in [Class::I, Class::HM] {
+        for rcomp in 0..=SPLICED_RCOMP_MAX {
+            features.push(feature(format!("class {class:?}, a splice of rcomp {rcomp}"), move |model| {
+                model.class() == class && spliced(model).any(|block| block.rcomp == rcomp)
+            }));
+        }
+    }
+    features.extend([
+        any_aligned("one piece with rcomp 2", |block| !block.is_spliced() && block.rcomp == 2),
+        feature("two spliced segments in a record", |model| {
+            let is_spliced = |block: &BlockModel| matches!(block, BlockModel::Aligned(block) if block.is_spliced());
+            model.records.iter().any(|record| record.blocks.len() == 2 && record.blocks.iter().all(is_spliced))
+        }),
+        feature("one template segment, spliced", |model| {
+            model.unit.template_segments == 1 && spliced(model).next().is_some()
+        }),
+        feature("pair code 2 and a splice by position", |model| {
+            model.class() == Class::I
+                && codes(model).any(|code| code == 2)
+                && spliced(model).any(|block| symbols_of(model, block, 3).next().is_some())
+        }),
+        any_symbol("a splice by position", 3, |_| true),
+        any_symbol("a distance with plus", 1, |value| value & 1 == 0 && value > 0),
+        any_symbol("a distance with minus", 1, |value| value & 1 == 1 && value > 1),
+        any_symbol("a distance of plus 0", 1, |value| value == 0),
+        any_symbol("a distance of minus 0", 1, |value| value == 1),
+        any_symbol("the greatest distance", 1, move |value| value == greatest),
+        feature("both codes in a read", |model| {
+            spliced(model).any(|block| [1, 3].iter().all(|from| symbols_of(model, block, *from).next().is_some()))
+        }),
+    ]);
+    features
+}
+
+/// Edits of one type at an offset beside a border: so many bases behind where a piece begins.
+fn beside_a_border(name: &str, kind: u8, behind: i64) -> Feature {
+    any_spliced(name, move |block| {
+        let borders = block.borders();
+        let at = |edit: &EditModel| borders.iter().any(|border| i64::from(edit.offset) == *border as i64 + behind);
+        block.edits.iter().any(|edit| edit.kind == kind && at(edit))
+    })
+}
+
+/// Two edits of one type that would be one run but for the border between them.
+fn over_a_border(name: &str, kind: u8) -> Feature {
+    any_spliced(name, move |block| {
+        let has = |offset: u64| block.edits.iter().any(|edit| edit.kind == kind && u64::from(edit.offset) == offset);
+        block.borders().iter().any(|border| has(border - 1) && has(*border))
+    })
+}
+
+fn splices_and_edits() -> Vec<Feature> {
+    vec![
+        beside_a_border("an insertion in front of a splice", INSERTION, -1),
+        beside_a_border("an insertion behind a splice", INSERTION, 0),
+        beside_a_border("a deletion right at a border", DELETION, 0),
+        beside_a_border("a deletion one base in front of a border", DELETION, -1),
+        beside_a_border("a substitution in front of a splice", SUBSTITUTION, -1),
+        beside_a_border("a substitution behind a splice", SUBSTITUTION, 0),
+        over_a_border("insertions on both sides of a splice", INSERTION),
+        over_a_border("substitutions on both sides of a splice", SUBSTITUTION),
+        any_spliced("two deletions right at a border", |block| {
+            let joined =
+                |two: &[EditModel]| two.iter().all(|edit| edit.kind == DELETION) && two[0].offset == two[1].offset;
+            let borders = block.borders();
+            block.edits.windows(2).any(|two| joined(two) && borders.contains(&u64::from(two[0].offset)))
+        }),
+        any_spliced("a spliced read without edits", |block| block.edits.is_empty()),
+        any_spliced("a deletion behind the last base of a spliced read", |block| {
+            block.edits.last().is_some_and(|edit| edit.kind == DELETION && u64::from(edit.offset) == block.mapped())
+        }),
+        any_spliced("a piece of insertions only", |block| block.taken_by_pieces().contains(&0)),
+        any_spliced("a piece that takes more than its read bases", |block| {
+            block.taken_by_pieces().iter().zip(&block.pieces).any(|(taken, length)| *taken > u64::from(*length))
+        }),
+        any_spliced("a piece that takes less than its read bases", |block| {
+            block.taken_by_pieces().iter().zip(&block.pieces).any(|(taken, length)| *taken < u64::from(*length))
+        }),
+        any_spliced("left soft clip of a spliced read", |block| block.clips[0] > 0),
+        any_spliced("right soft clip of a spliced read", |block| block.clips[2] > 0),
+        any_spliced("hard clips on both sides of a spliced read", |block| {
+            block.clips[0] == 0 && block.clips[2] == 0 && block.clips[1] > 0 && block.clips[3] > 0
+        }),
+        any_spliced("a left soft clip that leaves a piece one base", |block| {
+            block.clips[0] > 0 && block.clips[0] + 1 == block.pieces[0]
+        }),
+        any_spliced("a right soft clip that leaves a piece one base", |block| {
+            block.clips[2] > 0 && block.pieces.last().is_some_and(|length| block.clips[2] + 1 == *length)
+        }),
+    ]
+}
+
+/// What the splices of a block count.
+fn counts(block: &AlignedModel) -> impl Iterator<Item = u64> + '_ {
+    let taken = block.taken_by_pieces();
+    block.starts.windows(2).zip(taken).map(|(two, taken)| two[1] - two[0] - taken)
+}
+
+/// The pieces behind the first of first segments: where each starts and where it ends.
+fn later_pieces(model: &UnitModel) -> impl Iterator<Item = (u64, u64)> + '_ {
+    first_segments(model).flat_map(|(pos, block)| {
+        let pieces = block.starts.iter().zip(block.taken_by_pieces());
+        let places: Vec<_> = pieces.skip(1).map(|(start, taken)| (pos + start, pos + start + taken)).collect();
+        places
+    })
+}
+
+fn splices_and_places() -> Vec<Feature> {
+    let first = |model: &UnitModel| u64::from(model.unit.first);
+    let end = move |model: &UnitModel| first(model) + model.reference.len() as u64;
+    vec![
+        any_spliced("a splice that counts 1", |block| counts(block).any(|count| count == 1)),
+        any_spliced("a splice of five digits or more", |block| counts(block).any(|count| count >= 10_000)),
+        any_spliced("a splice of ten digits", |block| counts(block).any(|count| count >= 1_000_000_000)),
+        any_spliced("a read over all that there is", |block| block.reach() > 4_200_000_000),
+        feature("a later piece that ends at AU end", |model| {
+            later_pieces(model).any(|(_, end)| end == u64::from(model.unit.au_end) + 1)
+        }),
+        feature("a later piece inside the lent reference", move |model| {
+            later_pieces(model).any(|(from, to)| first(model) <= from && from < to && to <= end(model))
+        }),
+        feature("a later piece over the start of the reference", move |model| {
+            later_pieces(model).any(|(from, to)| from < first(model) && first(model) < to)
+        }),
+        feature("a later piece over the end of the reference", move |model| {
+            later_pieces(model).any(|(from, to)| from < end(model) && end(model) < to)
+        }),
+        feature("a later piece outside the reference", move |model| {
+            later_pieces(model).any(|(from, to)| from < to && (to <= first(model) || end(model) <= from))
+        }),
     ]
 }

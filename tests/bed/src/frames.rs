@@ -45,6 +45,8 @@ pub enum Field {
     Pos,
     ReadLength,
     Rcomp,
+    PieceCount,
+    PieceLength,
     SoftClip,
     HardClip,
     SoftBase,
@@ -177,6 +179,12 @@ fn put_unaligned(frame: &mut Frame, block: &UnalignedModel) {
 fn put_aligned(frame: &mut Frame, class: Class, block: &AlignedModel) {
     frame.put(Field::ReadLength, 2, u64::from(block.length));
     frame.put(Field::Rcomp, 1, u64::from(block.rcomp));
+    if class.has_splices() {
+        frame.put(Field::PieceCount, 1, u64::from(block.piece_count));
+        for length in &block.pieces {
+            frame.put(Field::PieceLength, 2, u64::from(*length));
+        }
+    }
     if class.has_clips() {
         for (number, clip) in block.clips.iter().enumerate() {
             let field = if number % 2 == 0 { Field::SoftClip } else { Field::HardClip };

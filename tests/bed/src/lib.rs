@@ -8,6 +8,7 @@ pub mod calls;
 pub mod cases;
 pub mod compare;
 pub mod damage;
+pub mod faults;
 pub mod features;
 pub mod found;
 pub mod frames;

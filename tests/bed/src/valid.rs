@@ -4,7 +4,10 @@
 use crate::model::*;
 use crate::rng::Rng;
 use oracle::alphabet::Alphabet;
-use oracle::limits::{EDITS_MAX, READ_LENGTH_MAX, RECORDS_MAX, REFERENCE_MAX, SUBSEQUENCES};
+use oracle::limits::{
+    EDITS_MAX, PIECES_MAX, RCOMP_MAX, READ_LENGTH_MAX, RECORDS_MAX, REFERENCE_MAX, SPLICED_RCOMP_MAX, SUBSEQUENCES,
+    SYMBOLS_MAX,
+};
 use oracle::{Class, Symbols, UnitNumbers};
 
 const LAST_POSITION: u64 = u32::MAX as u64;
@@ -20,12 +23,19 @@ pub fn unit_model(rng: &mut Rng) -> UnitModel {
 pub fn unit_model_of(rng: &mut Rng, records: u16) -> UnitModel {
     let mut unit = unit_numbers(rng, records);
     let reference = reference(rng, &mut unit);
+    let class = Class::from_number(unit.class).expect("made from the list of classes");
+    let longest = if records <= 12 { longest(rng) } else { None };
+    if let (true, Some(Longest::Ecigar)) = (class.has_splices(), longest) {
+        // The longest splices need all positions.
+        (unit.au_start, unit.au_end) = (0, u32::MAX);
+    }
     let mut builder = Builder {
-        class: Class::from_number(unit.class).expect("made from the list of classes"),
+        class,
         letters: alphabet_size(unit.alphabet),
         reference_length: reference.len() as u64,
         short: records > 60,
-        longest: if records <= 12 { longest(rng) } else { None },
+        longest,
+        splices_left: usize::from(SYMBOLS_MAX - records),
         unit,
         symbols: Symbols::default(),
     };
@@ -51,7 +61,11 @@ fn record_count(rng: &mut Rng) -> u16 {
 }
 
 fn unit_numbers(rng: &mut Rng, record_count: u16) -> UnitNumbers {
-    let class = 1 + rng.below(Class::ALL.len() as u64) as u8;
+    let mut class = 1 + rng.below(Class::ALL.len() as u64) as u8;
+    // Where there can be splices there is more to try.
+    if Class::I.has_splices() && rng.percent(40) {
+        class = *rng.pick(&[4, 4, 5]);
+    }
     let paired = Class::from_number(class) == Some(Class::HM) || rng.percent(70);
     let (au_start, au_end) = region(rng);
     UnitNumbers {
@@ -134,6 +148,8 @@ pub struct Builder {
     /// In units of many records the reads are short.
     short: bool,
     longest: Option<Longest>,
+    /// How many splices the unit may still have: each record may want a symbol of every subsequence for itself.
+    splices_left: usize,
     symbols: Symbols,
 }
 
@@ -166,21 +182,22 @@ impl Builder {
     fn half_mapped_record(&mut self, rng: &mut Rng, before: [u16; SUBSEQUENCES]) -> RecordModel {
         let value = u32::from(u16_edge(rng));
         self.push(1, value);
-        let block = self.aligned(rng, self.region());
-        let pos = self.position(rng, block.taken());
+        let mut block = self.aligned(rng, self.region());
+        let pos = self.position(rng, &block);
+        self.place(rng, u64::from(pos), &mut block);
         RecordModel { pos, blocks: vec![BlockModel::Aligned(block), self.unaligned(rng)], before }
     }
 
     fn aligned_record(&mut self, rng: &mut Rng, before: [u16; SUBSEQUENCES]) -> RecordModel {
         let code = self.code(rng);
-        let block = self.aligned(rng, self.region());
-        let pos = self.position(rng, block.taken());
-        let mut blocks = vec![BlockModel::Aligned(block)];
+        let mut block = self.aligned(rng, self.region());
+        let pos = self.position(rng, &block);
+        let mut second = None;
         match code {
             Some(0) => {
                 let (mate, delta) = self.mate(rng, u64::from(pos));
                 self.push(1, (2 * delta + rng.below(2)) as u32);
-                blocks.push(BlockModel::Aligned(mate));
+                second = Some((mate, delta));
             }
             Some(1 | 2) => self.push(code_list(code), u32_edge(rng)),
             Some(3 | 4) => {
@@ -189,7 +206,35 @@ impl Builder {
             }
             _ => {}
         }
+        // The symbols of the blocks stand behind those of the pair, the first block's before the second's.
+        self.place(rng, u64::from(pos), &mut block);
+        let mut blocks = vec![BlockModel::Aligned(block)];
+        if let Some((mut mate, delta)) = second {
+            self.place(rng, u64::from(pos) + delta, &mut mate);
+            blocks.push(BlockModel::Aligned(mate));
+        }
         RecordModel { pos, blocks, before }
+    }
+
+    /// Takes down where the pieces of a read lie: by their distance where that can be said, or by their position.
+    fn place(&mut self, rng: &mut Rng, position: u64, block: &mut AlignedModel) {
+        for number in 1..block.pieces.len() {
+            let start = block.starts[number];
+            let end = block.starts[number - 1] + u64::from(block.pieces[number - 1]);
+            let distance = start.abs_diff(end);
+            let symbols = if distance <= DELTA_MAX && rng.percent(65) {
+                // No distance has either sign.
+                let minus = start < end || start == end && rng.percent(50);
+                [(0, 0), (1, (2 * distance + u64::from(minus)) as u32)]
+            } else {
+                [(0, 2), (3, (position + start) as u32)]
+            };
+            for (subsequence, value) in symbols {
+                block.splices.push(SymbolPlace { subsequence, index: self.symbols[subsequence].len() });
+                self.push(subsequence, value);
+            }
+        }
+        self.splices_left -= block.pieces.len() - 1;
     }
 
     /// A pair code where the unit has any, taken down in subsequence 0.
@@ -210,7 +255,7 @@ impl Builder {
     fn mate(&self, rng: &mut Rng, pos: u64) -> (AlignedModel, u64) {
         let room = u64::from(self.unit.au_end) + 1 - pos;
         let mate = self.aligned(rng, room);
-        let last = (room - mate.taken().max(1)).min(DELTA_MAX);
+        let last = (room - mate.room()).min(DELTA_MAX);
         let delta = match rng.below(5) {
             0 => 0,
             1 => last,
@@ -224,16 +269,16 @@ impl Builder {
         u64::from(self.unit.au_end) - u64::from(self.unit.au_start) + 1
     }
 
-    /// Where a segment that takes so many positions can lie: at either edge of the unit, about the edges of the
+    /// Where a segment can lie: at either edge of the unit, about the edges of the
     /// reference, or anywhere.
-    fn position(&self, rng: &mut Rng, taken: u64) -> u32 {
+    fn position(&self, rng: &mut Rng, block: &AlignedModel) -> u32 {
         let low = u64::from(self.unit.au_start);
-        let high = u64::from(self.unit.au_end) + 1 - taken.max(1);
+        let high = u64::from(self.unit.au_end) + 1 - block.room();
         let first = u64::from(self.unit.first);
-        let near = rng.below(2 * taken + 8);
+        let near = rng.below(2 * block.reach() + 8);
         // Behind the last position of all a mate's position would begin at 0 again, were it not kept wider.
         if self.region() > LAST_POSITION && rng.percent(30) {
-            return (high - rng.below(40)) as u32;
+            return high.saturating_sub(rng.below(40)).max(low) as u32;
         }
         let wanted = match rng.below(10) {
             0 => low,
@@ -270,42 +315,77 @@ impl Builder {
         BlockModel::Unaligned(UnalignedModel { length, bases })
     }
 
-    /// An aligned block that takes at most `room` positions. One match always fits.
+    /// An aligned block that reaches over at most `room` positions. One match always fits.
     fn aligned(&self, rng: &mut Rng, room: u64) -> AlignedModel {
         for _ in 0..4 {
-            let block = match self.longest {
-                Some(longest) if self.class.has_clips() => longest_block(rng, longest),
+            let mut block = match self.longest {
+                Some(longest) if self.class.has_clips() => self.longest_block(rng, longest),
                 _ => {
                     let length = self.read_length(rng);
                     self.aligned_of(rng, length)
                 }
             };
-            if block.taken() <= room {
+            if spread(rng, &mut block, room) {
                 return block;
             }
         }
-        let clips = self.clips(rng, 1);
-        AlignedModel { length: 1, rcomp: rng.below(2) as u8, clips, soft: Vec::new(), edit_count: 0, edits: Vec::new() }
+        let clips = self.clips(rng, &[1]);
+        let rcomp = self.rcomp(rng);
+        aligned_model(rcomp, vec![1], clips, Vec::new(), Vec::new())
     }
 
     fn aligned_of(&self, rng: &mut Rng, length: u16) -> AlignedModel {
-        let clips = self.clips(rng, length);
+        let pieces = self.pieces(rng, length);
+        let clips = self.clips(rng, &pieces);
         let soft = (0..clips[0] + clips[2]).map(|_| self.letter(rng)).collect();
         let mapped = length - clips[0] - clips[2];
         let edits = self.edits(rng, mapped);
-        AlignedModel { length, rcomp: rng.below(2) as u8, clips, soft, edit_count: edits.len() as u16, edits }
+        let rcomp = self.rcomp(rng);
+        aligned_model(rcomp, pieces, clips, soft, edits)
     }
 
-    /// Soft clips that leave at least one base, hard clips of any size.
-    fn clips(&self, rng: &mut Rng, length: u16) -> [u16; 4] {
+    fn rcomp(&self, rng: &mut Rng) -> u8 {
+        let greatest = if self.class.has_splices() { SPLICED_RCOMP_MAX } else { RCOMP_MAX };
+        rng.below(u64::from(greatest) + 1) as u8
+    }
+
+    /// The lengths of the pieces of a read: few mostly, now and then as many as there may be.
+    fn pieces(&self, rng: &mut Rng, length: u16) -> Vec<u16> {
+        // The record's other block may want as many.
+        let most = (1 + self.splices_left / 2).min(usize::from(length)).min(usize::from(PIECES_MAX)) as u64;
+        if !self.class.has_splices() || most == 1 || rng.percent(20) {
+            return vec![length];
+        }
+        let number = match rng.below(10) {
+            0 => most,
+            1 => rng.between(2, most),
+            _ => rng.between(2, most.min(4)),
+        };
+        let mut cuts: Vec<u16> = Vec::new();
+        while cuts.len() + 1 < number as usize {
+            let cut = rng.between(1, u64::from(length) - 1) as u16;
+            if !cuts.contains(&cut) {
+                cuts.push(cut);
+            }
+        }
+        cuts.sort();
+        cuts.push(length);
+        let mut before = 0;
+        cuts.into_iter().map(|cut| cut - std::mem::replace(&mut before, cut)).collect()
+    }
+
+    /// Soft clips that leave each piece at least one base, hard clips of any size.
+    fn clips(&self, rng: &mut Rng, pieces: &[u16]) -> [u16; 4] {
         if !self.class.has_clips() || rng.percent(30) {
             return [0; 4];
         }
-        let spare = u64::from(length) - 1;
-        let left = if rng.percent(50) { rng.below(spare + 1) } else { 0 };
+        let spare = |piece: Option<&u16>| piece.map_or(0, |length| u64::from(*length) - 1);
+        let left_spare = spare(pieces.first());
+        let left = if rng.percent(50) { rng.below(left_spare + 1) } else { 0 };
+        let right_spare = if pieces.len() == 1 { left_spare - left } else { spare(pieces.last()) };
         let right = match rng.below(3) {
-            0 => rng.below(spare - left + 1),
-            1 if rng.percent(30) => spare - left,
+            0 => rng.below(right_spare + 1),
+            1 if rng.percent(30) => right_spare,
             _ => 0,
         };
         let mut hard = || if rng.percent(50) { 0 } else { u16_edge(rng) };
@@ -372,22 +452,102 @@ fn longest(rng: &mut Rng) -> Option<Longest> {
     }
 }
 
-fn longest_block(rng: &mut Rng, longest: Longest) -> AlignedModel {
-    let deletion = |offset| EditModel { offset, kind: DELETION, symbol: 0 };
-    let length = READ_LENGTH_MAX;
-    let (clips, edits): (_, Vec<_>) = match longest {
-        Longest::Input => {
-            let left = rng.below(u64::from(length)) as u16;
-            let before = rng.below(u64::from(EDITS_MAX) + 1) as u16;
-            (
-                [left, 0, length - 1 - left, 1],
-                (0..EDITS_MAX).map(|number| deletion(u16::from(number >= before))).collect(),
-            )
+impl Builder {
+    fn longest_block(&self, rng: &mut Rng, longest: Longest) -> AlignedModel {
+        let deletion = |offset| EditModel { offset, kind: DELETION, symbol: 0 };
+        let length = READ_LENGTH_MAX;
+        let pieces = self.longest_pieces(rng, longest);
+        let (clips, edits): (_, Vec<_>) = match (longest, &pieces[..]) {
+            (Longest::Input, [first, .., last]) => {
+                let (left, right) = (first - 1, last - 1);
+                let at = rng.below(u64::from(length - left - right) + 1) as u16;
+                ([left, 0, right, 1], (0..EDITS_MAX).map(|_| deletion(at)).collect())
+            }
+            (Longest::Input, _) => {
+                let left = rng.below(u64::from(length)) as u16;
+                let before = rng.below(u64::from(EDITS_MAX) + 1) as u16;
+                (
+                    [left, 0, length - 1 - left, 1],
+                    (0..EDITS_MAX).map(|number| deletion(u16::from(number >= before))).collect(),
+                )
+            }
+            (Longest::Ecigar, _) => ([0, u16::MAX, 0, u16::MAX], (1..=EDITS_MAX).map(deletion).collect()),
+        };
+        let soft = (0..clips[0] + clips[2]).map(|_| rng.below(4) as u8).collect();
+        let rcomp = self.rcomp(rng);
+        aligned_model(rcomp, pieces, clips, soft, edits)
+    }
+
+    /// As many pieces as there may be: of one base but for the clipped ones, or of any lengths.
+    fn longest_pieces(&self, rng: &mut Rng, longest: Longest) -> Vec<u16> {
+        let length = READ_LENGTH_MAX;
+        let most = u16::from(PIECES_MAX);
+        if !self.class.has_splices() || self.splices_left / 2 < usize::from(most) || rng.percent(30) {
+            return vec![length];
         }
-        Longest::Ecigar => ([0, u16::MAX, 0, u16::MAX], (1..=EDITS_MAX).map(deletion).collect()),
-    };
-    let soft = (0..clips[0] + clips[2]).map(|_| rng.below(4) as u8).collect();
-    AlignedModel { length, rcomp: rng.below(2) as u8, clips, soft, edit_count: EDITS_MAX, edits }
+        let mut pieces = match longest {
+            Longest::Input => vec![1; usize::from(most)],
+            Longest::Ecigar => vec![length / most; usize::from(most)],
+        };
+        let spare = length - pieces.iter().sum::<u16>();
+        let first = rng.below(u64::from(spare) + 1) as u16;
+        pieces[0] += first;
+        pieces[usize::from(most) - 1] += spare - first;
+        pieces
+    }
+}
+
+fn aligned_model(rcomp: u8, pieces: Vec<u16>, clips: [u16; 4], soft: Vec<u8>, edits: Vec<EditModel>) -> AlignedModel {
+    AlignedModel {
+        length: pieces.iter().sum(),
+        rcomp,
+        piece_count: pieces.len() as u8,
+        pieces,
+        starts: vec![0],
+        splices: Vec::new(),
+        clips,
+        soft,
+        edit_count: edits.len() as u16,
+        edits,
+    }
+}
+
+/// Digits of which the longest splices have as many as can be: three more of ten than all fifteen of nine.
+const LONG_SPLICES: [u64; 15] = {
+    let mut counts = [100_000_000; 15];
+    (counts[0], counts[7], counts[14]) = (1_000_000_000, 1_000_000_000, 1_000_000_000);
+    counts
+};
+
+/// Lays the pieces of a read out, each behind the one before; false where they do not fit.
+fn spread(rng: &mut Rng, block: &mut AlignedModel, room: u64) -> bool {
+    let taken = block.taken_by_pieces();
+    let splices = taken.len() as u64 - 1;
+    let least: u64 = taken[..taken.len() - 1].iter().sum::<u64>() + splices + taken[taken.len() - 1].max(1);
+    if least > room {
+        return false;
+    }
+    let mut spare = room - least;
+    let longest = splices == 15 && LONG_SPLICES.iter().sum::<u64>() <= spare && rng.percent(50);
+    for number in 1..taken.len() {
+        let more = if longest { LONG_SPLICES[number - 1] } else { longer(rng, block, &taken, number, spare) };
+        spare = spare.saturating_sub(more);
+        block.starts.push(block.starts[number - 1] + taken[number - 1] + 1 + more);
+    }
+    true
+}
+
+/// How much longer than 1 the splice in front of a piece is: nothing, few, many, what the greatest distance says, or
+/// all that there may be.
+fn longer(rng: &mut Rng, block: &AlignedModel, taken: &[u64], number: usize, spare: u64) -> u64 {
+    let greatest = (u64::from(block.pieces[number - 1]) + DELTA_MAX).checked_sub(taken[number - 1] + 1);
+    match rng.below(10) {
+        0..=2 => 0,
+        3..=5 => rng.below(spare.min(20) + 1),
+        6..=7 => rng.below(spare.min(500) + 1),
+        8 => greatest.map_or(0, |more| (more + rng.below(2)).min(spare)),
+        _ => rng.below(spare + 1),
+    }
 }
 
 /// The subsequence from which codes 1 to 4 take their first symbol: 2 to 5.

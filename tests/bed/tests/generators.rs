@@ -5,6 +5,7 @@ use bed::cases::valid_case;
 use bed::model::{BlockModel, UnitModel};
 use bed::{listing_case, pair_call, record_call, resume_case, segment_call, Rng};
 use oracle::alphabet::Alphabet;
+use oracle::limits::{ECIGAR_MAX, LINE_DIGITS_MAX, LISTED_LINE_MAX};
 
 const SEED: u64 = 20_240;
 
@@ -55,13 +56,14 @@ fn lengths_keep_their_limits() {
         for line in lines_of(&files.expected()).into_iter().filter(|line| line.starts_with(b"04")) {
             longest_listed = longest_listed.max(line.len());
             for segment in listed(&unhex(line)).segments {
-                assert!(segment.ecigar.len() <= 4_014);
+                assert!(segment.ecigar.len() <= ECIGAR_MAX);
             }
             assert!(line.len() > 2 * 28);
         }
     }
-    // Nothing is longer, and the cases reach both limits.
-    assert_eq!((longest_input, longest_listed), (20_058, 20_149));
+    // Nothing is longer, and the cases come as near to both limits as accepted records do.
+    assert!(longest_input <= LINE_DIGITS_MAX && longest_listed <= LISTED_LINE_MAX);
+    assert_eq!((longest_input, longest_listed), (20_130, 20_761));
 }
 
 struct ListedSegment {
@@ -122,7 +124,7 @@ fn walk(model: &UnitModel, segment: &ListedSegment) -> u64 {
                 (read, taken) = (read + count, taken + count as u64);
             }
             b'+' | b')' => read += count,
-            b'-' => taken += count as u64,
+            b'-' | b'/' | b'%' | b'*' => taken += count as u64,
             b']' => {}
             other => panic!("no operation: {}", other as char),
         }
@@ -130,6 +132,14 @@ fn walk(model: &UnitModel, segment: &ListedSegment) -> u64 {
     }
     assert_eq!(read, segment.bases.len(), "the E-CIGAR consumes the read");
     taken
+}
+
+/// How many splices an E-CIGAR has; all have the sign of this rcomp.
+fn splices(ecigar: &[u8], rcomp: u8) -> usize {
+    let of = |sign: u8| ecigar.iter().filter(|byte| **byte == sign).count();
+    let own = of(b"/%*"[usize::from(rcomp)]);
+    assert_eq!(own, of(b'/') + of(b'%') + of(b'*'));
+    own
 }
 
 #[test]
@@ -144,9 +154,10 @@ fn every_ecigar_tells_the_read_it_stands_for() {
             for (block, segment) in record.blocks.iter().zip(&listed.segments) {
                 match block {
                     BlockModel::Aligned(block) => {
-                        assert_eq!(walk(&model, segment), block.taken(), "case {case}");
+                        assert_eq!(walk(&model, segment), block.reach(), "case {case}");
+                        assert_eq!(splices(&segment.ecigar, block.rcomp), block.pieces.len() - 1, "case {case}");
                         assert!(segment.position >= u64::from(model.unit.au_start));
-                        assert!(segment.position + block.taken() <= u64::from(model.unit.au_end) + 1);
+                        assert!(segment.position + block.reach() <= u64::from(model.unit.au_end) + 1);
                         walked += 1;
                     }
                     BlockModel::Unaligned(block) => {
@@ -184,7 +195,8 @@ fn record_calls_in_a_row_are_the_listing() {
         let mut joined = unit_lines[0].to_vec();
         let mut state = vec![0; 9];
         for line in &unit_lines[9..] {
-            let answer = oracle::record(&model.unit, &model.reference, &model.symbols, &counts, &state, line, 20_149);
+            let answer =
+                oracle::record(&model.unit, &model.reference, &model.symbols, &counts, &state, line, LISTED_LINE_MAX);
             let (added, after) = answer.unwrap();
             joined.extend(added);
             state = [&[after.number], &after.indexes[..]].concat();

@@ -16,13 +16,15 @@ pub mod reference;
 pub mod refusal;
 pub mod resume;
 pub mod segment;
+pub mod splices;
 pub mod unit;
 
-pub use listing::listing;
-pub use pairing::{pair, Link, Mate, State, Symbols};
+pub use listing::{listing, listing_and_refusal};
+pub use pairing::{pair, Link, Mate, State, Symbols, Taker};
 pub use record::record;
 pub use reference::Reference;
 pub use refusal::Refusal;
 pub use resume::{kept, resume};
 pub use segment::{aligned_segment, unaligned_segment, Segment};
+pub use splices::Fault;
 pub use unit::{Class, Unit, UnitNumbers};

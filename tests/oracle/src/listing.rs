@@ -11,15 +11,20 @@ use crate::unit::{read_unit, Unit};
 
 /// What the listing program prints for these two files.
 pub fn listing(reference: &[u8], unit: &[u8]) -> Vec<u8> {
+    listing_and_refusal(reference, unit).0
+}
+
+/// The same, and the refusal that ended it.
+pub fn listing_and_refusal(reference: &[u8], unit: &[u8]) -> (Vec<u8>, Option<Refusal>) {
     let mut out = Vec::with_capacity(unit.len());
-    match open(reference, unit) {
+    let refusal = match open(reference, unit) {
         Ok(opened) => {
             out.extend_from_slice(opened.unit_line);
-            list_rest(&opened, &mut out);
+            list_rest(&opened, &mut out)
         }
-        Err(refusal) => out.extend(refused_line(0, refusal)),
-    }
-    out
+        Err(refusal) => Some(refused(&mut out, 0, refusal)),
+    };
+    (out, refusal)
 }
 
 /// A reference and a unit line that were both read.
@@ -41,12 +46,12 @@ pub fn open<'a>(reference: &[u8], unit: &'a [u8]) -> Result<Opened<'a>, Refusal>
     Ok(Opened { reference, unit, unit_line, lines })
 }
 
-/// Everything after the unit line.
-pub fn list_rest(opened: &Opened, out: &mut Vec<u8>) {
+/// Everything after the unit line. Gives the refusal that ended it.
+pub fn list_rest(opened: &Opened, out: &mut Vec<u8>) -> Option<Refusal> {
     let mut lines = opened.lines.clone();
     match read_pairs(&mut lines) {
         Ok(symbols) => list_records(opened, &symbols, State::default(), lines, out),
-        Err(refusal) => out.extend(refused_line(0, refusal)),
+        Err(refusal) => Some(refused(out, 0, refusal)),
     }
 }
 
@@ -59,20 +64,35 @@ pub fn read_pairs(lines: &mut Lines) -> Result<Symbols, Refusal> {
     Ok(symbols)
 }
 
-/// The records from `state` on, whose lines follow in `lines`, and the last line.
-pub fn list_records(opened: &Opened, symbols: &Symbols, state: State, mut lines: Lines, out: &mut Vec<u8>) {
+/// The records from `state` on, whose lines follow in `lines`, and the last line. Gives the refusal that ended it.
+pub fn list_records(
+    opened: &Opened,
+    symbols: &Symbols,
+    state: State,
+    mut lines: Lines,
+    out: &mut Vec<u8>,
+) -> Option<Refusal> {
     let counts = counts_of(symbols);
     let mut state = state;
     while state.number < opened.unit.record_count {
         match list_record(opened, symbols, &counts, &state, &mut lines, out) {
             Ok(after) => state = after,
-            Err(refusal) => return out.extend(refused_line(state.number, refusal)),
+            Err(refusal) => return Some(refused(out, state.number, refusal)),
         }
     }
     match at_last(&counts, &state, &lines) {
-        Ok(()) => out.extend(end_line(opened.unit.record_count)),
-        Err(refusal) => out.extend(refused_line(opened.unit.record_count, refusal)),
+        Ok(()) => {
+            out.extend(end_line(opened.unit.record_count));
+            None
+        }
+        Err(refusal) => Some(refused(out, opened.unit.record_count, refusal)),
     }
+}
+
+/// Adds the 05 line and hands the refusal back.
+fn refused(out: &mut Vec<u8>, number: u16, refusal: Refusal) -> Refusal {
+    out.extend(refused_line(number, refusal));
+    refusal
 }
 
 fn list_record(

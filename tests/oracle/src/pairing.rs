@@ -72,16 +72,20 @@ pub fn pair(
     counts: &[u16; SUBSEQUENCES],
     state: &State,
 ) -> Result<(Link, State), Refusal> {
-    let mut taker = Taker { symbols, counts, state: state.clone() };
-    let link = if unit.template_segments == 1 {
-        Link { segments: 1, split_mate: 0, read1_first: 1, mate: Mate::None }
+    let mut taker = Taker::new(symbols, counts, state);
+    let link = link(unit, &mut taker)?;
+    Ok((link, taker.state))
+}
+
+pub(crate) fn link(unit: &Unit, taker: &mut Taker) -> Result<Link, Refusal> {
+    if unit.template_segments == 1 {
+        Ok(Link { segments: 1, split_mate: 0, read1_first: 1, mate: Mate::None })
     } else if unit.class == Class::HM {
         let value = taker.take_u16(1)?;
-        Link { segments: 2, split_mate: 0, read1_first: read1_first(value), mate: Mate::None }
+        Ok(Link { segments: 2, split_mate: 0, read1_first: read1_first(value), mate: Mate::None })
     } else {
-        coded(unit, &mut taker)?
-    };
-    Ok((link, taker.state))
+        coded(unit, taker)
+    }
 }
 
 /// Every class but HM: one code from subsequence 0 says what else is taken.
@@ -135,14 +139,18 @@ fn as_u16(value: u32) -> Result<u16, Refusal> {
 }
 
 /// The symbols with the state that taking them moves on.
-struct Taker<'a> {
+pub struct Taker<'a> {
     symbols: &'a Symbols,
     counts: &'a [u16; SUBSEQUENCES],
-    state: State,
+    pub state: State,
 }
 
-impl Taker<'_> {
-    fn take(&mut self, subsequence: usize) -> Result<u32, Refusal> {
+impl<'a> Taker<'a> {
+    pub fn new(symbols: &'a Symbols, counts: &'a [u16; SUBSEQUENCES], state: &State) -> Self {
+        Taker { symbols, counts, state: state.clone() }
+    }
+
+    pub(crate) fn take(&mut self, subsequence: usize) -> Result<u32, Refusal> {
         let index = self.state.indexes[subsequence];
         if index >= self.counts[subsequence] {
             return Err(Refusal::SymbolsUsedUp);

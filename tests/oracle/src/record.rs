@@ -4,7 +4,7 @@ use crate::frame::Frame;
 use crate::hex::{read_line, write_line};
 use crate::kind;
 use crate::limits::{LISTED_FRAME_LEAST, SUBSEQUENCES};
-use crate::pairing::{pair, symbol_count_fits, Link, Mate, State, Symbols};
+use crate::pairing::{link, symbol_count_fits, Link, Mate, State, Symbols, Taker};
 use crate::reference::{reference_fits, Reference};
 use crate::refusal::Refusal;
 use crate::segment::{take_aligned, take_unaligned, Segment};
@@ -79,7 +79,7 @@ pub(crate) fn state_stands(unit: &Unit, counts: &[u16; SUBSEQUENCES], state: &St
 }
 
 /// Kind, pair symbols, pos, blocks, left-over bytes (document 01, Order). The pair symbols come before pos
-/// is read (decision 7).
+/// is read (decision 7); those of a block's splices in the midst of that block.
 pub(crate) fn decode(
     unit: &Unit,
     reference: Reference,
@@ -90,14 +90,15 @@ pub(crate) fn decode(
 ) -> Result<Record, Refusal> {
     let mut frame = Frame::new(bytes);
     frame.kind(kind::RECORD)?;
-    let (link, mut after) = pair(unit, symbols, counts, state)?;
+    let mut taker = Taker::new(symbols, counts, state);
+    let link = link(unit, &mut taker)?;
     let pos = frame.u32()?;
     if unit.class == Class::U && pos != 0 {
         return Err(Refusal::Position);
     }
-    let segments = segments(unit, reference, &link, pos, &mut frame)?;
+    let segments = segments(unit, reference, &link, pos, &mut taker, &mut frame)?;
     frame.end()?;
-    after.number += 1;
+    let after = State { number: state.number + 1, indexes: taker.state.indexes };
     let (mate_sequence_id, mate_position) = mate(unit, &link, pos);
     Ok(Record { number: state.number, link, mate_sequence_id, mate_position, segments, after })
 }
@@ -108,6 +109,7 @@ fn segments(
     reference: Reference,
     link: &Link,
     pos: u32,
+    taker: &mut Taker,
     frame: &mut Frame,
 ) -> Result<Vec<Segment>, Refusal> {
     let mut segments = Vec::with_capacity(usize::from(link.segments));
@@ -118,7 +120,7 @@ fn segments(
             _ => true,
         };
         segments.push(if aligned {
-            take_aligned(unit, reference, position(link, pos, number), frame)?
+            take_aligned(unit, reference, position(link, pos, number), taker, frame)?
         } else {
             take_unaligned(unit.alphabet, frame)?
         });
@@ -127,10 +129,10 @@ fn segments(
 }
 
 /// The sum is never wrapped: past the last u32 it lies outside every unit (decision 8).
-fn position(link: &Link, pos: u32, number: u8) -> u64 {
+fn position(link: &Link, pos: u32, number: u8) -> i64 {
     match link.mate {
-        Mate::Behind { delta } if number == 1 => u64::from(pos) + u64::from(delta),
-        _ => u64::from(pos),
+        Mate::Behind { delta } if number == 1 => i64::from(pos) + i64::from(delta),
+        _ => i64::from(pos),
     }
 }
 

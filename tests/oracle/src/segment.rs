@@ -1,10 +1,12 @@
-//! One block of a record frame: its fields, its bases, its E-CIGAR (Tables 92 and 93, 10.6.1).
+//! One block of a record frame: its fields, its bases, its E-CIGAR (Tables 92 to 94, 10.6.1).
 
 use crate::alphabet::{Alphabet, UNKNOWN};
 use crate::frame::Frame;
-use crate::limits::{ECIGAR_MAX, EDITS_MAX, READ_LENGTH_MAX};
+use crate::limits::{ECIGAR_MAX, EDITS_MAX, RCOMP_MAX, READ_LENGTH_MAX, SPLICED_RCOMP_MAX};
+use crate::pairing::Taker;
 use crate::reference::Reference;
 use crate::refusal::Refusal;
+use crate::splices::{clip, one_piece, pieces, Fault, Piece};
 use crate::unit::{Class, Unit};
 
 /// A segment as it is listed.
@@ -46,9 +48,17 @@ struct Clips {
 /// An aligned block, all of its own fields in their values.
 struct Block {
     rcomp: u8,
+    pieces: Vec<Piece>,
     clips: Clips,
-    mapped_length: usize,
     edits: Vec<Edit>,
+}
+
+/// A piece with the edits that belong to it.
+struct Edited<'a> {
+    piece: Piece,
+    /// The offset of its first mapped base in the whole read.
+    start: usize,
+    edits: &'a [Edit],
 }
 
 /// What stands between the clips, as the E-CIGAR counts it.
@@ -61,16 +71,17 @@ enum Run {
 }
 
 /// Decodes the aligned block that begins at `offset` of a frame, for a segment at `position` (which may lie
-/// above every u32, decision 8). Gives the segment and where the next block begins.
+/// above every u32, decision 8). Its splices take symbols. Gives the segment and where the next block begins.
 pub fn aligned_segment(
     unit: &Unit,
     reference: Reference,
-    position: u64,
+    position: i64,
+    taker: &mut Taker,
     frame: &[u8],
     offset: usize,
 ) -> Result<(Segment, usize), Refusal> {
     let mut frame = Frame::from_offset(frame, offset);
-    let segment = take_aligned(unit, reference, position, &mut frame)?;
+    let segment = take_aligned(unit, reference, position, taker, &mut frame)?;
     Ok((segment, frame.at()))
 }
 
@@ -81,17 +92,39 @@ pub fn unaligned_segment(alphabet: Alphabet, frame: &[u8], offset: usize) -> Res
     Ok((segment, frame.at()))
 }
 
+/// The pieces one after the other, each with 13, then 10 (decision 78); the clips around them.
 pub(crate) fn take_aligned(
     unit: &Unit,
     reference: Reference,
-    position: u64,
+    position: i64,
+    taker: &mut Taker,
     frame: &mut Frame,
 ) -> Result<Segment, Refusal> {
-    let block = read_block(unit, frame)?;
-    let runs = runs(&block);
-    let position = checked_position(unit, position, &runs)?;
-    let bases = bases(unit.alphabet, reference, position, &block, &runs)?;
-    Ok(Segment { position, rcomp: block.rcomp, bases, ecigar: ecigar(&block.clips, &runs) })
+    let block = read_block(unit, position, taker, frame)?;
+    let clips = &block.clips;
+    let mut bases = Vec::with_capacity(block.read_length());
+    let mut ecigar = Vec::with_capacity(block.text_room());
+    bases.extend_from_slice(&clips.left_soft);
+    write_clip(&mut ecigar, clips.left_soft.len(), clips.left_hard);
+    let mut end_before = None;
+    for edited in block.edited() {
+        let runs = runs(&edited);
+        let start = edited.piece.position;
+        let end = start + runs.iter().map(reference_taken).sum::<usize>() as i64;
+        check_place(unit, start, end, end_before)?;
+        if let Some(end_before) = end_before {
+            write_counted(&mut ecigar, (start - end_before) as usize, splice_sign(block.rcomp));
+        }
+        let added = add_bases(&mut bases, unit.alphabet, reference, &edited, &runs);
+        added.map_err(|refusal| if end_before.is_some() { Fault::Reference.into() } else { refusal })?;
+        write_runs(&mut ecigar, &runs);
+        end_before = Some(end);
+    }
+    bases.extend_from_slice(&clips.right_soft);
+    write_clip(&mut ecigar, clips.right_soft.len(), clips.right_hard);
+    debug_assert!(ecigar.len() <= ECIGAR_MAX);
+    // The first piece lies in the unit, so this is a u32 again.
+    Ok(Segment { position: position as u32, rcomp: block.rcomp, bases, ecigar })
 }
 
 /// An unaligned segment has position 0, rcomp 0 and no E-CIGAR.
@@ -103,16 +136,26 @@ pub(crate) fn take_unaligned(alphabet: Alphabet, frame: &mut Frame) -> Result<Se
 
 // The fields of a block, left to right.
 
-fn read_block(unit: &Unit, frame: &mut Frame) -> Result<Block, Refusal> {
+fn read_block(unit: &Unit, position: i64, taker: &mut Taker, frame: &mut Frame) -> Result<Block, Refusal> {
     let length = read_length(frame)?;
+    let rcomp = rcomp(unit.class, frame)?;
+    let mut pieces =
+        if unit.class.has_splices() { pieces(frame, length, position, taker)? } else { one_piece(position, length) };
+    let clips = if unit.class.has_clips() { clips(unit.alphabet, frame, &mut pieces)? } else { Clips::default() };
+    let mapped_length = pieces.iter().map(|piece| piece.mapped_length).sum();
+    let edits = if unit.class.has_edits() { edits(unit, frame, mapped_length)? } else { Vec::new() };
+    Ok(Block { rcomp, pieces, clips, edits })
+}
+
+fn rcomp(class: Class, frame: &mut Frame) -> Result<u8, Refusal> {
     let rcomp = frame.u8()?;
-    if rcomp > 1 {
+    if class.has_splices() && rcomp > SPLICED_RCOMP_MAX {
+        return Err(Fault::Rcomp.into());
+    }
+    if !class.has_splices() && rcomp > RCOMP_MAX {
         return Err(Refusal::BlockValue);
     }
-    let clips = if unit.class.has_clips() { clips(unit.alphabet, frame, length)? } else { Clips::default() };
-    let mapped_length = usize::from(length) - clips.left_soft.len() - clips.right_soft.len();
-    let edits = if unit.class.has_edits() { edits(unit, frame, mapped_length)? } else { Vec::new() };
-    Ok(Block { rcomp, clips, mapped_length, edits })
+    Ok(rcomp)
 }
 
 fn read_length(frame: &mut Frame) -> Result<u16, Refusal> {
@@ -132,15 +175,13 @@ fn letters(alphabet: Alphabet, frame: &mut Frame, count: u16) -> Result<Vec<u8>,
     Ok(letters)
 }
 
-/// The four numbers are looked at once all of them are read (document 01, Order): the mapped length is at least 1.
-fn clips(alphabet: Alphabet, frame: &mut Frame, length: u16) -> Result<Clips, Refusal> {
+/// The four numbers are looked at once all of them are read (document 01, Order): each piece has a mapped base.
+fn clips(alphabet: Alphabet, frame: &mut Frame, pieces: &mut [Piece]) -> Result<Clips, Refusal> {
     let left_soft = frame.u16()?;
     let left_hard = frame.u16()?;
     let right_soft = frame.u16()?;
     let right_hard = frame.u16()?;
-    if u32::from(left_soft) + u32::from(right_soft) >= u32::from(length) {
-        return Err(Refusal::SoftClips);
-    }
+    clip(pieces, left_soft, right_soft)?;
     let left_soft = letters(alphabet, frame, left_soft)?;
     let right_soft = letters(alphabet, frame, right_soft)?;
     Ok(Clips { left_soft, left_hard, right_soft, right_hard })
@@ -205,12 +246,45 @@ fn next_offset(edit: Edit, least: usize, mapped_length: usize) -> Result<usize, 
 
 // From edits to runs, from runs to positions, bases and text.
 
+impl Block {
+    fn read_length(&self) -> usize {
+        self.pieces.iter().map(|piece| usize::from(piece.length)).sum()
+    }
+
+    /// Room set aside for the text: four characters an edit, ten a piece, and two clips of which the longest is a hard
+    /// clip of five digits.
+    fn text_room(&self) -> usize {
+        4 * self.edits.len() + 10 * self.pieces.len() + 2 * "[65535]".len()
+    }
+
+    /// The pieces with their own edits. Offsets count through all pieces; a piece's edits are those at its bases, and
+    /// behind the last piece no other begins (decision 76).
+    fn edited(&self) -> impl Iterator<Item = Edited<'_>> {
+        let mut end = 0;
+        let mut rest = &self.edits[..];
+        self.pieces.iter().enumerate().map(move |(number, piece)| {
+            let start = end;
+            end += piece.mapped_length;
+            let last = number + 1 == self.pieces.len();
+            let (edits, behind) = rest.split_at(if last { rest.len() } else { edits_before(rest, end) });
+            rest = behind;
+            Edited { piece: *piece, start, edits }
+        })
+    }
+}
+
+/// How many edits belong to a piece that ends at this offset and is not the last: a deletion at the end itself belongs to
+/// the piece that begins there.
+fn edits_before(edits: &[Edit], end: usize) -> usize {
+    edits.iter().take_while(|edit| edit.offset < end).count()
+}
+
 /// Neighbouring insertions, and neighbouring deletions, become one run: they are neighbours exactly when no
-/// match and no other edit lies between them, which is what document 01 says by offsets.
-fn runs(block: &Block) -> Vec<Run> {
-    let mut runs = Vec::with_capacity(2 * block.edits.len() + 1);
-    let mut read_place = 0;
-    for (number, edit) in block.edits.iter().enumerate() {
+/// match and no other edit lies between them, which is what document 01 says by offsets. No run goes over a splice.
+fn runs(edited: &Edited) -> Vec<Run> {
+    let mut runs = Vec::with_capacity(2 * edited.edits.len() + 1);
+    let mut read_place = edited.start;
+    for (number, edit) in edited.edits.iter().enumerate() {
         if edit.offset > read_place {
             runs.push(Run::Match(edit.offset - read_place));
             read_place = edit.offset;
@@ -226,8 +300,9 @@ fn runs(block: &Block) -> Vec<Run> {
             read_place += 1;
         }
     }
-    if read_place < block.mapped_length {
-        runs.push(Run::Match(block.mapped_length - read_place));
+    let end = edited.start + edited.piece.mapped_length;
+    if read_place < end {
+        runs.push(Run::Match(end - read_place));
     }
     runs
 }
@@ -241,56 +316,65 @@ fn reference_taken(run: &Run) -> usize {
     }
 }
 
-/// The segment lies in the unit, whole (13). A position in the unit is a u32 again.
-fn checked_position(unit: &Unit, position: u64, runs: &[Run]) -> Result<u32, Refusal> {
-    let taken: usize = runs.iter().map(reference_taken).sum();
-    if !unit.holds(position) || position + taken as u64 > unit.au_past() {
-        return Err(Refusal::Position);
-    }
-    Ok(position as u32)
+/// A piece lies in the unit, whole, and behind the one before it, which ended at `end_before` (13).
+fn check_place(unit: &Unit, start: i64, end: i64, end_before: Option<i64>) -> Result<(), Refusal> {
+    let au_start = i64::from(unit.au_start);
+    let Some(end_before) = end_before else {
+        let inside = au_start <= start && start < unit.au_past() && end <= unit.au_past();
+        return if inside { Ok(()) } else { Err(Refusal::Position) };
+    };
+    let fault = match start - end_before {
+        _ if start < 0 => Fault::BelowZero,
+        _ if start > i64::from(u32::MAX) => Fault::PastAll,
+        _ if start < au_start => Fault::BeforeUnit,
+        _ if start >= unit.au_past() => Fault::BehindUnit,
+        _ if end > unit.au_past() => Fault::EndsBehindUnit,
+        0 => Fault::NoSplice,
+        count if count < 0 => Fault::NegativeSplice,
+        _ => return Ok(()),
+    };
+    Err(fault.into())
 }
 
-fn bases(
+fn add_bases(
+    bases: &mut Vec<u8>,
     alphabet: Alphabet,
     reference: Reference,
-    position: u32,
-    block: &Block,
+    edited: &Edited,
     runs: &[Run],
-) -> Result<Vec<u8>, Refusal> {
-    let clips = &block.clips;
-    let mut bases = Vec::with_capacity(clips.left_soft.len() + block.mapped_length + clips.right_soft.len());
-    bases.extend_from_slice(&clips.left_soft);
-    let mut reference_place = u64::from(position);
+) -> Result<(), Refusal> {
+    // The piece lies in the unit.
+    let mut reference_place = edited.piece.position as u64;
     for run in runs {
         match run {
-            Run::Match(count) => reference.add_matches(&mut bases, alphabet, reference_place, *count)?,
+            Run::Match(count) => reference.add_matches(bases, alphabet, reference_place, *count)?,
             Run::Substitution(letter) => bases.push(*letter),
-            Run::Insertion(from, to) => bases.extend(block.edits[*from..*to].iter().map(|edit| edit.letter)),
+            Run::Insertion(from, to) => bases.extend(edited.edits[*from..*to].iter().map(|edit| edit.letter)),
             Run::Deletion(_) => {}
         }
         reference_place += reference_taken(run) as u64;
     }
-    bases.extend_from_slice(&clips.right_soft);
-    Ok(bases)
+    Ok(())
 }
 
-/// Room set aside for two clips, the longest of which is a hard clip of five digits.
-const CLIPS_ROOM: usize = 2 * "[65535]".len();
-
-fn ecigar(clips: &Clips, runs: &[Run]) -> Vec<u8> {
-    let mut text = Vec::with_capacity(2 * runs.len() + CLIPS_ROOM);
-    write_clip(&mut text, clips.left_soft.len(), clips.left_hard);
+fn write_runs(text: &mut Vec<u8>, runs: &[Run]) {
     for run in runs {
         match run {
-            Run::Match(count) => write_counted(&mut text, *count, b'='),
+            Run::Match(count) => write_counted(text, *count, b'='),
             Run::Substitution(letter) => text.push(*letter),
-            Run::Insertion(from, to) => write_counted(&mut text, to - from, b'+'),
-            Run::Deletion(count) => write_counted(&mut text, *count, b'-'),
+            Run::Insertion(from, to) => write_counted(text, to - from, b'+'),
+            Run::Deletion(count) => write_counted(text, *count, b'-'),
         }
     }
-    write_clip(&mut text, clips.right_soft.len(), clips.right_hard);
-    debug_assert!(text.len() <= ECIGAR_MAX);
-    text
+}
+
+/// Table 94: a forward, a reverse and an undirected splice.
+fn splice_sign(rcomp: u8) -> u8 {
+    match rcomp {
+        0 => b'/',
+        1 => b'%',
+        _ => b'*',
+    }
 }
 
 /// On a side with soft clips a hard clip is not written (Table 92).

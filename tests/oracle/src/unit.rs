@@ -29,6 +29,11 @@ impl Class {
         matches!(self, Class::I | Class::HM)
     }
 
+    /// Whether an aligned block says of how many pieces its read is.
+    pub fn has_splices(self) -> bool {
+        self.has_clips()
+    }
+
     pub fn has_edits(self) -> bool {
         self != Class::P
     }
@@ -77,12 +82,8 @@ impl Unit {
     }
 
     /// One past the last position; wider than u32, as AU end may be the last u32 (decision 47).
-    pub fn au_past(&self) -> u64 {
-        u64::from(self.au_end) + 1
-    }
-
-    pub fn holds(&self, position: u64) -> bool {
-        u64::from(self.au_start) <= position && position < self.au_past()
+    pub fn au_past(&self) -> i64 {
+        i64::from(self.au_end) + 1
     }
 }
 

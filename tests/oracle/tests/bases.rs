@@ -116,7 +116,7 @@ fn table_92_clips_of_each_side() {
 
 #[test]
 fn soft_clipped_bases_stand_left_then_right() {
-    let block = [&unhex("0005000002000000010000")[..], &[0, 1, 2], &unhex("0000")].concat();
+    let block = [&unhex("000500")[..], &pieces(&[5]), &unhex("0002000000010000"), &[0, 1, 2], &unhex("0000")].concat();
     let segment = given(I).with(record(103, &[block])).segment();
     assert_eq!((segment.bases.as_str(), segment.ecigar.as_str()), ("ACTAG", "(2)2=(1)"));
 }
@@ -309,6 +309,7 @@ fn the_longest_ecigar() {
     assert_eq!(segment.ecigar.len(), 4_014);
 }
 
+/// Of reads without splices.
 #[test]
 fn the_longest_listed_line() {
     let unit = given(I).symbol(0, 0).symbol(1, 0).with(record(100, &[longest_block(), longest_block()]));
@@ -316,20 +317,6 @@ fn the_longest_listed_line() {
     assert_eq!(refusal(&listing), None);
     let line = listing.split_inclusive(|byte| *byte == b'\n').nth(1).unwrap();
     assert_eq!(line.len(), 20_149);
-}
-
-#[test]
-fn the_longest_input_line_is_a_record() {
-    let edits = vec![(1, DELETION, 0); 1_000];
-    let block = || block_i(1_000, [500, 0, 499, 0], &edits);
-    let unit = given(I).symbol(0, 0).symbol(1, 0).with(record(100, &[block(), block()]));
-    assert_eq!(unit.lines()[9].len(), 20_058 + 1);
-    assert_eq!(unit.refusal(), None);
-    assert_eq!(unit.listed()[0].segments[1].ecigar, "(500)1=1000-(499)");
-    // One more byte makes the line too long, which is noticed before the byte is left over.
-    let mut longer = unit.clone();
-    longer.records[0].push(0);
-    assert_eq!(longer.refusal(), Some((0, 1)));
 }
 
 #[test]

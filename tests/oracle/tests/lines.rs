@@ -175,8 +175,8 @@ fn reading_3_ends_of_files() {
 
 #[test]
 fn reading_3_the_longest_input_line() {
-    assert!(read_line(&[vec![b'0'; 20_058], vec![b'\n']].concat()).is_ok());
-    assert_eq!(read_line(&[vec![b'0'; 20_060], vec![b'\n']].concat()), Err(Refusal::Digits));
+    assert!(read_line(&[vec![b'0'; LINE_DIGITS], vec![b'\n']].concat()).is_ok());
+    assert_eq!(read_line(&[vec![b'0'; LINE_DIGITS + 2], vec![b'\n']].concat()), Err(Refusal::Digits));
     // In a file: a long line of zeros has no kind of ours (2) up to the limit, and is too long past it (1).
     let with_record = |digits: usize, ended: bool| {
         let mut lines = small().lines();
@@ -186,13 +186,13 @@ fn reading_3_the_longest_input_line() {
         }
         refusal(&listing_of(&lines.concat()))
     };
-    assert_eq!(with_record(20_058, true), Some((1, 2)));
-    assert_eq!(with_record(20_060, true), Some((1, 1)));
-    assert_eq!(with_record(20_058, false), Some((1, 1)));
+    assert_eq!(with_record(LINE_DIGITS, true), Some((1, 2)));
+    assert_eq!(with_record(LINE_DIGITS + 2, true), Some((1, 1)));
+    assert_eq!(with_record(LINE_DIGITS, false), Some((1, 1)));
     assert_eq!(with_record(100_000, false), Some((1, 1)));
     // The limit is the same in every kind of line.
-    assert_eq!(oracle::listing(&[vec![b'0'; 20_060], vec![b'\n']].concat(), b""), b"05000001\n");
-    assert_eq!(oracle::listing(&[vec![b'0'; 20_058], vec![b'\n']].concat(), b""), b"05000002\n");
+    assert_eq!(oracle::listing(&[vec![b'0'; LINE_DIGITS + 2], vec![b'\n']].concat(), b""), b"05000001\n");
+    assert_eq!(oracle::listing(&[vec![b'0'; LINE_DIGITS], vec![b'\n']].concat(), b""), b"05000002\n");
 }
 
 #[test]

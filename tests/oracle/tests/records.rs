@@ -48,7 +48,7 @@ fn call(given: &Given) -> Call {
         counts: given.symbols.iter().map(|list| list.len() as u16).collect(),
         state: vec![0; 9],
         line: line(&given.records[0]),
-        room: 20_149,
+        room: LISTED_DIGITS + 1,
     }
 }
 
@@ -254,7 +254,8 @@ fn faulty(faults: &[usize]) -> Call {
     let mut frame = vec![pick("kind", 4, 3) as u8];
     frame.extend(pick("first position", 99, 2_000).to_be_bytes());
     frame.extend((pick("first read length", 1_001, 6) as u16).to_be_bytes());
-    frame.push(pick("first rcomp", 2, 1) as u8);
+    frame.push(pick("first rcomp", 3, 1) as u8);
+    frame.extend(pieces(&[6]));
     for clip in [2, 7, pick("first soft clips", 4, 1), 9] {
         frame.extend((clip as u16).to_be_bytes());
     }
@@ -265,7 +266,9 @@ fn faulty(faults: &[usize]) -> Call {
     frame.extend((pick("edit 2 offset", 1, 2) as u16).to_be_bytes());
     frame.extend([2, pick("edit 2 deletion symbol", 1, 0) as u8]);
     frame.extend((pick("second read length", 0, 1) as u16).to_be_bytes());
-    frame.extend([0; 9]);
+    frame.push(0);
+    frame.extend(pieces(&[1]));
+    frame.extend([0; 8]);
     frame.extend([0, 0]);
     if has("left-over byte") {
         frame.push(0);
@@ -324,36 +327,38 @@ fn order_each_fault_alone_and_before_every_later_one() {
 /// A frame cut anywhere is short (2), unless a field that is complete is refused first.
 #[test]
 fn order_fields_are_checked_when_complete() {
-    // Bytes of the frame that have to be there for the fault to be seen.
+    // Bytes of the frame that have to be there for the fault to be seen. Each block has the lengths of its pieces.
+    let more = pieces(&[1]).len();
     let complete = [
         ("pair code", 1),
         ("pair value", 1),
         ("first read length", 7),
         ("first rcomp", 8),
-        ("first soft clips", 16),
-        ("first soft base", 18),
-        ("first edit count", 21),
-        ("edit 1 type", 25),
-        ("edit 1 symbol", 25),
-        ("edit 1 offset", 25),
-        ("edit 2 deletion symbol", 29),
-        ("edit 2 offset", 29),
-        ("first position", 29),
-        ("reference byte under a match", 29),
-        ("second read length", 31),
-        ("second position", 42),
+        ("first soft clips", 16 + more),
+        ("first soft base", 18 + more),
+        ("first edit count", 21 + more),
+        ("edit 1 type", 25 + more),
+        ("edit 1 symbol", 25 + more),
+        ("edit 1 offset", 25 + more),
+        ("edit 2 deletion symbol", 29 + more),
+        ("edit 2 offset", 29 + more),
+        ("first position", 29 + more),
+        ("reference byte under a match", 29 + more),
+        ("second read length", 31 + more),
+        ("second position", 42 + 2 * more),
     ];
+    let whole_length = 42 + 2 * more;
     for (name, needed) in complete {
         let fault = FAULTS.iter().position(|fault| fault.0 == name).unwrap();
         let whole = faulty(&[fault]);
-        for cut in 0..42 {
+        for cut in 0..whole_length {
             let mut call = whole.clone();
             call.line = [&whole.line[..2 * cut], b"\n"].concat();
             let expected = if cut < needed { 2 } else { FAULTS[fault].1 };
             assert_eq!(call.refusal(), expected, "{name}, cut at {cut}");
         }
     }
-    for cut in 0..42 {
+    for cut in 0..whole_length {
         let mut call = faulty(&[]);
         call.line = [&call.line[..2 * cut], b"\n"].concat();
         assert_eq!(call.refusal(), 2, "cut at {cut}");

@@ -208,9 +208,10 @@ fn the_longest_kept_line() {
         frame[0] = 4;
         [&first[..], &line(&frame)].concat()
     };
-    assert_eq!(with(10_074).len() - first.len(), 20_149);
-    assert_ne!(unit.resume(&with(10_074)), REFUSED_16);
-    assert_eq!(unit.resume(&with(10_075)), REFUSED_16);
+    let bytes = LISTED_DIGITS / 2;
+    assert_eq!(with(bytes).len() - first.len(), LISTED_DIGITS + 1);
+    assert_ne!(unit.resume(&with(bytes)), REFUSED_16);
+    assert_eq!(unit.resume(&with(bytes + 1)), REFUSED_16);
 }
 
 #[test]

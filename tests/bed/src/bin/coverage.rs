@@ -1,8 +1,9 @@
-//! coverage [--units N] [--resumes N] [--calls N] [--seed S]: what the generators reach, by refusal number and by
-//! what the units have in them. Fails when something is reached too seldom to be tested.
+//! coverage [--units N] [--resumes N] [--calls N] [--seed S]: what the generators reach, by refusal number, by what is
+//! wrong with splices and by what the units have in them. Fails when something is reached too seldom to be tested.
 
 use bed::answers::{ending, resume_refusal, Ending};
 use bed::cases::valid_case;
+use bed::faults;
 use bed::features::features;
 use bed::{listing_case, pair_call, record_call, resume_case, segment_call, Rng};
 use oracle::Refusal;
@@ -46,7 +47,7 @@ fn main() -> ExitCode {
             wanted(Refusal::ReadLength, Refusal::Position),
         ),
     ];
-    let seldom = [print_numbers(&columns), print_features(seed, units)].concat();
+    let seldom = [print_numbers(&columns), print_faults(seed, units, calls), print_features(seed, units)].concat();
     for line in &seldom {
         println!("too seldom: {line}");
     }
@@ -111,6 +112,41 @@ fn print_numbers(columns: &[(&str, Counts, Vec<u8>)]) -> Vec<String> {
         println!();
     }
     seldom
+}
+
+/// What is wrong with the splices of the reads that are refused for them, in units and in record calls.
+fn print_faults(seed: u64, units: u64, calls: u64) -> Vec<String> {
+    let listed = count_faults((0..units).map(|case| {
+        let files = listing_case(seed, case);
+        oracle::listing_and_refusal(&files.reference, &files.unit).1
+    }));
+    let called = count_faults((0..calls).map(|case| record_call(&mut Rng::for_case(seed, case)).expected().err()));
+    let mut seldom = Vec::new();
+    let names = faults::names();
+    if !names.is_empty() {
+        println!("\n{:>14}{:>14}  splices refused by", "listing", "record call");
+    }
+    for name in names {
+        let reached = [("listing", &listed), ("record call", &called)]
+            .map(|(column, counts)| (column, counts.get(&name).copied().unwrap_or(0)));
+        println!("{:>14}{:>14}  {name}", reached[0].1, reached[1].1);
+        for (column, times) in reached {
+            if times < LEAST {
+                seldom.push(format!("{column}, {name}: {times} times"));
+            }
+        }
+    }
+    seldom
+}
+
+fn count_faults(refusals: impl Iterator<Item = Option<Refusal>>) -> BTreeMap<String, u64> {
+    let mut counts = BTreeMap::new();
+    for refusal in refusals {
+        if let Some(Refusal::Splices(fault)) = refusal {
+            *counts.entry(faults::name(fault)).or_default() += 1;
+        }
+    }
+    counts
 }
 
 /// What the units in order have in them, before any damage: in how many units of all.

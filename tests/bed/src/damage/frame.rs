@@ -3,7 +3,7 @@
 use crate::frames::{Field, Frame, Place};
 use crate::rng::Rng;
 use oracle::kind;
-use oracle::limits::{EDITS_MAX, READ_LENGTH_MAX, RECORDS_MAX, REFERENCE_LINE_MAX, REFERENCE_MAX, SYMBOLS_MAX};
+use oracle::limits::*;
 use oracle::UnitNumbers;
 
 /// Damages one frame: a field at or past its limits, a cut, bytes too many or too few.
@@ -88,6 +88,8 @@ fn edges(field: Field, unit: &UnitNumbers, old: u64) -> Vec<u64> {
         Field::PairSymbol => vec![0, 1, 2, 3, 4, 5, 6, 7, two, two + 1, 2 * (two + 1), four],
         Field::ReadLength => vec![0, 1, length, length + 1, two],
         Field::Rcomp => vec![0, 1, 2, byte],
+        Field::PieceCount => vec![0, 1, 2, u64::from(PIECES_MAX), u64::from(PIECES_MAX) + 1, byte],
+        Field::PieceLength => vec![0, 1, length, two],
         Field::SoftClip => vec![0, 1, length - 1, length, two],
         Field::EditCount => vec![0, 1, edits, edits + 1, two],
         Field::Offset => vec![0, 1, length - 1, length, length + 1, two],

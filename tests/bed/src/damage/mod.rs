@@ -2,6 +2,7 @@
 
 mod frame;
 mod record;
+mod splices;
 mod text;
 mod unit;
 

@@ -1,6 +1,7 @@
 //! Damage to a unit before it is written down. A kind of damage that does not fit a case says so by `false`, and
 //! another one is tried.
 
+use super::splices::{damage_splices, has_splices, ON_PIECES};
 use crate::model::*;
 use crate::rng::Rng;
 use oracle::alphabet::Alphabet;
@@ -10,7 +11,7 @@ use oracle::UnitNumbers;
 /// How often another kind of damage is tried where one does not fit.
 const TRIES: usize = 12;
 
-type OnRecord = fn(&mut Rng, &mut UnitModel, usize) -> bool;
+pub type OnRecord = fn(&mut Rng, &mut UnitModel, usize) -> bool;
 type OnUnit = fn(&mut Rng, &mut UnitModel) -> bool;
 
 /// Those named twice or more are wanted more often.
@@ -65,11 +66,25 @@ pub fn damage_model(rng: &mut Rng, model: &mut UnitModel, focus: usize) {
 /// Damages one record, in one way or, now and then, in two.
 pub fn damage_record(rng: &mut Rng, model: &mut UnitModel, record: usize) {
     for _ in 0..if rng.percent(30) { 2 } else { 1 } {
+        let kinds = kinds(rng, model, record);
         for _ in 0..TRIES {
-            if rng.pick(&ON_RECORD)(rng, model, record) {
+            if rng.pick(kinds)(rng, model, record) {
                 break;
             }
         }
+    }
+}
+
+/// Where there are splices, mostly damage that is theirs.
+fn kinds(rng: &mut Rng, model: &UnitModel, record: usize) -> &'static [OnRecord] {
+    if !model.class().has_splices() {
+        return &ON_RECORD;
+    }
+    match rng.below(10) {
+        0 => &ON_PIECES,
+        1..=7 if has_splices(model, record) => &[damage_splices],
+        1 => &ON_PIECES,
+        _ => &ON_RECORD,
     }
 }
 
@@ -182,25 +197,17 @@ fn position_edges(unit: &UnitNumbers, taken: u64) -> [u32; 8] {
 fn pos_at_an_edge(rng: &mut Rng, model: &mut UnitModel, record: usize) -> bool {
     let unit = model.unit.clone();
     let taken = match &model.records[record].blocks[..] {
-        [BlockModel::Aligned(block), ..] => safely_taken(block),
+        [BlockModel::Aligned(block), ..] => block.reach(),
         _ => 1,
     };
     model.records[record].pos = *rng.pick(&position_edges(&unit, taken));
     true
 }
 
-/// What a block takes, also where it has been damaged before.
-fn safely_taken(block: &AlignedModel) -> u64 {
-    let spared = u64::from(block.clips[0]) + u64::from(block.clips[2]);
-    let deletions = block.edits.iter().filter(|edit| edit.kind == DELETION).count() as u64;
-    let insertions = block.edits.iter().filter(|edit| edit.kind == INSERTION).count() as u64;
-    (u64::from(block.length) + deletions).saturating_sub(spared + insertions)
-}
-
 /// Draws the unit's end in until the last position taken lies outside, or is just inside.
 fn last_base_outside(rng: &mut Rng, model: &mut UnitModel, record: usize) -> bool {
     let [BlockModel::Aligned(block), ..] = &model.records[record].blocks[..] else { return false };
-    let end = u64::from(model.records[record].pos) + safely_taken(block);
+    let end = u64::from(model.records[record].pos) + block.reach();
     let wanted = end.saturating_sub(1 + rng.below(2));
     if wanted < u64::from(model.unit.au_start) || wanted > u64::from(u32::MAX) {
         return false;
@@ -239,7 +246,7 @@ fn mate_outside(rng: &mut Rng, model: &mut UnitModel, record: usize) -> bool {
     let [BlockModel::Aligned(first), BlockModel::Aligned(mate)] = &model.records[record].blocks[..] else {
         return false;
     };
-    let (first, mate) = (safely_taken(first).max(1), safely_taken(mate).max(1));
+    let (first, mate) = (first.reach().max(1), mate.reach().max(1));
     if own_symbol(model, record, 1).is_none() {
         return false;
     }
@@ -258,7 +265,7 @@ fn mate_outside(rng: &mut Rng, model: &mut UnitModel, record: usize) -> bool {
 }
 
 /// The first index outside the unit's alphabet, one that the other alphabet has, or any large one.
-fn bad_index(rng: &mut Rng, unit: &UnitNumbers) -> u8 {
+pub fn bad_index(rng: &mut Rng, unit: &UnitNumbers) -> u8 {
     let size = Alphabet::from_number(unit.alphabet).map_or(0, Alphabet::size);
     *rng.pick(&[size, size, size + 10, u8::MAX])
 }
@@ -376,7 +383,8 @@ fn another_number_of_blocks(rng: &mut Rng, model: &mut UnitModel, record: usize)
 /// A reference byte outside the alphabet where the first segment lies.
 fn bad_reference_under_the_read(rng: &mut Rng, model: &mut UnitModel, record: usize) -> bool {
     let [BlockModel::Aligned(block), ..] = &model.records[record].blocks[..] else { return false };
-    let position = u64::from(model.records[record].pos) + rng.below(safely_taken(block).max(1));
+    let taken = block.taken_by_pieces().first().copied().unwrap_or(0);
+    let position = u64::from(model.records[record].pos) + rng.below(taken.max(1));
     let bad = bad_index(rng, &model.unit);
     let place = position.checked_sub(u64::from(model.unit.first));
     match place.and_then(|place| model.reference.get_mut(place as usize)) {

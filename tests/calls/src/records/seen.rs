@@ -15,7 +15,8 @@ pub fn nothing() -> Tally {
     let accepted = Class::ALL.into_iter().flat_map(|class| SEGMENTS.map(|segments| accepted(class, segments)));
     // HM has two template segments.
     let accepted = accepted.filter(|name| *name != self::accepted(Class::HM, 1));
-    Tally::of(REFUSALS.map(refused).into_iter().chain(accepted).chain([EXACT, SHAPE].map(String::from)))
+    let spliced = Class::ALL.into_iter().filter(|class| class.has_splices()).map(spliced);
+    Tally::of(REFUSALS.map(refused).into_iter().chain(accepted).chain(spliced).chain([EXACT, SHAPE].map(String::from)))
 }
 
 pub fn add(seen: &mut Tally, call: &Call, outcome: &Outcome) {
@@ -31,6 +32,16 @@ pub fn add(seen: &mut Tally, call: &Call, outcome: &Outcome) {
     }
     let class = Class::from_number(lent.unit.class).expect("an accepted record has a unit within its values");
     seen.count(accepted(class, lent.unit.template_segments));
+    if class.has_splices() && lent.line.get(PIECES) != Some(b"01") {
+        seen.count(spliced(class));
+    }
+}
+
+/// The digits of a record line that say how many pieces its first read has.
+const PIECES: std::ops::Range<usize> = 16..18;
+
+fn spliced(class: Class) -> String {
+    format!("class {class:?}, several pieces accepted")
 }
 
 fn accepted(class: Class, segments: u8) -> String {

@@ -5,6 +5,10 @@ use bed::RecordCall;
 use oracle::limits::{LISTED_FRAME_LEAST, LISTED_LINE_MAX, SUBSEQUENCES};
 use oracle::{Class, UnitNumbers};
 
+/// The digits of a record line that are its first block's read length, and where those of its rcomp end.
+const READ_LENGTH: std::ops::Range<usize> = 10..14;
+const RCOMP_END: usize = 16;
+
 /// What the document says of an answer.
 enum Says {
     /// The only segment's E-CIGAR ends the line.
@@ -50,6 +54,16 @@ const VECTORS: [Vector; 16] = [
 ];
 
 impl Vector {
+    /// The line as the format has it: where a read may have splices, the number of its pieces, 1, and the read length
+    /// once more stand behind rcomp.
+    fn line(&self) -> String {
+        if !self.class.has_splices() {
+            return format!("{}\n", self.line);
+        }
+        let (head, rest) = self.line.split_at(RCOMP_END);
+        format!("{head}01{}{rest}\n", &self.line[READ_LENGTH])
+    }
+
     fn call(&self) -> Call {
         let class = 1 + Class::ALL.iter().position(|class| *class == self.class).expect("a class") as u8;
         let mut symbols = vec![Vec::new(); SUBSEQUENCES];
@@ -70,7 +84,7 @@ impl Vector {
             counts: symbols.iter().map(|list| list.len() as u16).collect(),
             symbols,
             state: vec![0; 1 + SUBSEQUENCES],
-            line: format!("{}\n", self.line).into_bytes(),
+            line: self.line().into_bytes(),
             room: LISTED_LINE_MAX,
         };
         Call { lent, unit_length: 8 }

@@ -1,6 +1,10 @@
 //! Builds small units by hand and takes listings apart, without the help of the decoder's own code.
 #![allow(dead_code)]
 
+/// Digits of the longest input line, and of the longest listed line (document 01; decisions 71 and 72).
+pub const LINE_DIGITS: usize = 20_190;
+pub const LISTED_DIGITS: usize = 20_808;
+
 pub const P: u8 = 1;
 pub const N: u8 = 2;
 pub const M: u8 = 3;
@@ -166,10 +170,22 @@ pub fn block_m(length: u16, edits: &[(u16, u8)]) -> Vec<u8> {
     bytes
 }
 
+/// What a block of classes I and HM has behind rcomp: the number of pieces and their lengths.
+pub fn pieces(lengths: &[u16]) -> Vec<u8> {
+    let mut bytes = vec![lengths.len() as u8];
+    bytes.extend(lengths.iter().flat_map(|length| length.to_be_bytes()));
+    bytes
+}
+
 /// Clips: left soft, left hard, right soft, right hard. The soft-clipped bases are all T; of each side at most
 /// 1,000 are written, as more are refused by their number and would make the line too long.
 pub fn block_i(length: u16, clips: [u16; 4], edits: &[(u16, u8, u8)]) -> Vec<u8> {
-    let mut bytes = block_p(length);
+    block_pieces(length, 0, &[length], clips, edits)
+}
+
+/// The same of any rcomp and pieces.
+pub fn block_pieces(length: u16, rcomp: u8, lengths: &[u16], clips: [u16; 4], edits: &[(u16, u8, u8)]) -> Vec<u8> {
+    let mut bytes = [&length.to_be_bytes()[..], &[rcomp], &pieces(lengths)].concat();
     bytes.extend(clips.iter().flat_map(|clip| clip.to_be_bytes()));
     let soft = usize::from(clips[0].min(1_000)) + usize::from(clips[2].min(1_000));
     bytes.resize(bytes.len() + soft, 3);
