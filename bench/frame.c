@@ -18,7 +18,7 @@ static volatile uint64_t sink;
 /* The plain loops. noinline: a call each, as the probes are. */
 __attribute__((noinline)) static size_t c_line(const uint8_t *s, size_t n)
 {
-    if (n % 2 == 0 || n - 1 > 20058 || s[n - 1] != '\n')
+    if (n % 2 == 0 || n - 1 > 20190 || s[n - 1] != '\n')
         return 0;
     for (size_t i = 0; i < n - 1; i++)
         if (!((s[i] >= '0' && s[i] <= '9') || (s[i] >= 'a' && s[i] <= 'f')))

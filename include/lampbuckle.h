@@ -28,9 +28,9 @@ extern "C" {
 /* ---- limits */
 
 /* The most bytes of an input line, its 0A among them. */
-#define LAMPBUCKLE_LINE 20059
+#define LAMPBUCKLE_LINE 20191
 /* The most bytes of a line of a listing, its 0A among them: lent so many, no record is refused by 17. */
-#define LAMPBUCKLE_LISTED 20149
+#define LAMPBUCKLE_LISTED 20809
 /* The most reference bases. */
 #define LAMPBUCKLE_REFERENCE 32768
 /* The most records of a unit. */
@@ -80,15 +80,18 @@ enum lampbuckle_refusal {
     LAMPBUCKLE_MISFRAMED = 2,     /* wrong kind or subsequence number, a frame that ends early, bytes left over, reference counts exceeded */
     LAMPBUCKLE_UNIT_OUT = 3,      /* a unit field outside its values; a unit that is not LAMPBUCKLE_UNIT numbers */
     LAMPBUCKLE_COUNT_OUT = 4,     /* a symbol count above its limit; counts or symbols of another shape */
-    LAMPBUCKLE_USED_UP = 5,       /* a pair symbol is wanted and its subsequence is used up */
-    LAMPBUCKLE_CODE_OUT = 6,      /* pair code 7 or more */
+    LAMPBUCKLE_USED_UP = 5,       /* a pair symbol is wanted, by a record or by the pieces of a read, and its subsequence is used up */
+    LAMPBUCKLE_CODE_OUT = 6,      /* pair code 7 or more; a code of a piece other than 0 and 2 */
     LAMPBUCKLE_VALUE_OUT = 7,     /* a value taken from subsequence 1, 4 or 5 above 65535 */
-    LAMPBUCKLE_LENGTH_OUT = 8,    /* read length 0 or above 1000 */
-    LAMPBUCKLE_CLIPS_OUT = 9,     /* soft clips reach the read length */
+    LAMPBUCKLE_LENGTH_OUT = 8,    /* read length 0 or above 1000; not 1 to 16 pieces, a piece of length 0, or lengths that do not add
+                                     up to the read length */
+    LAMPBUCKLE_CLIPS_OUT = 9,     /* soft clips reach the read length, or that of the first or the last of several pieces */
     LAMPBUCKLE_SYMBOL_OUT = 10,   /* a symbol outside the alphabet, or such a reference byte under a match */
-    LAMPBUCKLE_FIELD_OUT = 11,    /* rcomp, edit type, edit count or deletion symbol outside its values */
+    LAMPBUCKLE_FIELD_OUT = 11,    /* rcomp (0 or 1; in classes I and HM 0 to 2), edit type, edit count or deletion symbol outside its
+                                     values */
     LAMPBUCKLE_OFFSET_OUT = 12,   /* offset out of order or outside the read */
-    LAMPBUCKLE_POSITION_OUT = 13, /* a position outside the unit, or pos not 0 in class U */
+    LAMPBUCKLE_POSITION_OUT = 13, /* a position outside the unit, that of a piece too; a splice that would count 0 or less; pos not 0
+                                     in class U */
     LAMPBUCKLE_MISSING = 14,      /* a state that the unit does not have, or numbers of another shape; the caller's own, for lines that
                                      are missing, bytes behind the last record line, and pair symbols left over */
     LAMPBUCKLE_OTHER_FIRST = 15,  /* the first kept line is not the listing's first line */
@@ -130,7 +133,8 @@ int64_t lampbuckle_reference_line(const uint8_t *line, size_t line_length, uint8
 /* ---- a record */
 
 /*
- * Lists the next record: one record line in, one 04 line out.
+ * Lists the next record: one record line in, one 04 line out. In classes I and HM each aligned block has its pieces behind rcomp: their
+ * number (a byte, 1 to 16) and their lengths (two bytes each), which add up to the read length. An E-CIGAR has at most 4179 characters.
  * @param unit, unit_length            LAMPBUCKLE_UNIT numbers, as a unit line gave them
  * @param reference, reference_length  the reference's bases, as many as the reference lines gave: no more than LAMPBUCKLE_REFERENCE
  * @param symbols, symbols_length      LAMPBUCKLE_TABLE numbers, as the pair lines gave them

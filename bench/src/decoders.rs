@@ -1,7 +1,7 @@
 //! Those that are compared: the proved record call, that of an earlier commit where scripts/bench is given one, the second
 //! decoder, and the floor.
 
-use crate::work::Work;
+use crate::work::{Case, Work};
 use oracle::limits::LISTED_LINE_MAX;
 use std::hint::black_box;
 
@@ -10,23 +10,31 @@ pub struct Decoder {
     pub name: &'static str,
     /// All records of the work, one after the other; how many bytes were written.
     pub run: fn(&Work, &mut [u8]) -> usize,
+    /// Whether its frames of class I have pieces, so that it can read one of several.
+    pub pieces: bool,
 }
 
-pub const PROVED: Decoder = Decoder { name: "proved", run: proved };
+impl Decoder {
+    pub fn reads(&self, case: &Case) -> bool {
+        self.pieces || case.pieces == 1
+    }
+}
+
+pub const PROVED: Decoder = Decoder { name: "proved", run: proved, pieces: true };
 
 /// The proved one first: the others are what it is compared with.
 pub const DECODERS: &[Decoder] = &[
     PROVED,
     #[cfg(before)]
-    Decoder { name: "before", run: before },
-    Decoder { name: "second", run: second },
-    Decoder { name: "floor", run: floor },
+    Decoder { name: "before", run: before, pieces: !cfg!(without_pieces) },
+    Decoder { name: "second", run: second, pieces: true },
+    Decoder { name: "floor", run: floor, pieces: true },
 ];
 
-/// `$run` calls `$record`, the record call of an archive as C sees it. A macro, so that the signature is written once for the
-/// two archives, and each is called directly.
+/// `$run` calls `$record`, the record call of an archive as C sees it, on the lines in the form that it reads. A macro, so that
+/// the signature is written once for the two archives, and each is called directly.
 macro_rules! archive {
-    ($run:ident, $record:ident) => {
+    ($run:ident, $record:ident, $lines:ident) => {
         fn $run(work: &Work, out: &mut [u8]) -> usize {
             extern "C" {
                 fn $record(
@@ -48,7 +56,7 @@ macro_rules! archive {
             }
             let mut state = [0u32; 9];
             let mut written = 0;
-            for line in &work.lines {
+            for line in &work.$lines {
                 // Sound: each pointer is that of live memory with as many items as the length says, and no two overlap.
                 let answer = unsafe {
                     $record(
@@ -76,9 +84,11 @@ macro_rules! archive {
     };
 }
 
-archive!(proved, lampbuckle_record);
-#[cfg(before)]
-archive!(before, before_record);
+archive!(proved, lampbuckle_record, lines);
+#[cfg(all(before, not(without_pieces)))]
+archive!(before, before_record, lines);
+#[cfg(all(before, without_pieces))]
+archive!(before, before_record, lines_without_pieces);
 
 fn second(work: &Work, _: &mut [u8]) -> usize {
     let mut state = vec![0u16; 9];

@@ -18,7 +18,7 @@ const ROUNDS: usize = 25;
 /// Records of a unit where the number is not what is looked at.
 const RECORDS: u16 = 64;
 
-const CASES: [Case; 17] = [
+const CASES: [Case; 19] = [
     case('P', 1, 150, 0),
     case('P', 2, 150, 0),
     case('M', 1, 150, 0),
@@ -36,12 +36,14 @@ const CASES: [Case; 17] = [
     case('N', 1, 150, 3),
     case('N', 1, 1_000, 1_000),
     Case { alphabet: 1, ..case('M', 1, 150, 3) },
+    Case { pieces: 2, ..case('I', 1, 150, 3) },
+    Case { pieces: 4, ..case('I', 1, 150, 3) },
 ];
 /// Places in CASES: those whose instructions are counted.
-const COUNTED: [usize; 5] = [0, 3, 6, 11, 12];
+const COUNTED: [usize; 7] = [0, 3, 6, 11, 12, 17, 18];
 
 const fn case(class: char, segments: u8, bases: u16, edits: u16) -> Case {
-    Case { class, alphabet: 0, segments, bases, edits }
+    Case { class, alphabet: 0, segments, bases, edits, pieces: 1 }
 }
 
 /// The lower quartile, the median and the upper quartile.
@@ -85,6 +87,22 @@ fn row(first: &str, figures: impl Iterator<Item = String>, ratios: impl Iterator
     println!("| {first} | {} |", figures.chain(ratios).collect::<Vec<_>>().join(" | "));
 }
 
+/// The same of a case: `figure` makes of what a decoder took its cell, `ratio` of what the proved one and another took theirs. Cells
+/// of a decoder that does not read the case are empty.
+fn row_of<T>(case: &Case, took: &[Option<T>], figure: impl Fn(&T) -> String, ratio: impl Fn(&T, &T) -> String) {
+    let proved = took[0].as_ref().expect("the proved one reads every case");
+    let cell = |text: Option<String>| text.unwrap_or_default();
+    let figures = took.iter().map(|took| cell(took.as_ref().map(&figure)));
+    let ratios = took[1..].iter().map(|other| cell(other.as_ref().map(|other| ratio(proved, other))));
+    row(&case.name(), figures, ratios);
+}
+
+/// For each decoder what is next of the figures, which are of those that read the case.
+fn spread_out<T>(case: &Case, figures: Vec<T>) -> Vec<Option<T>> {
+    let mut figures = figures.into_iter();
+    DECODERS.iter().map(|decoder| if decoder.reads(case) { figures.next() } else { None }).collect()
+}
+
 fn head(first: &str, unit: &str) {
     let names = DECODERS.iter().map(|decoder| decoder.name);
     row(first, names.clone().map(|name| format!("{name}{unit}")), names.skip(1).map(|name| format!("proved/{name}")));
@@ -94,10 +112,10 @@ fn head(first: &str, unit: &str) {
 fn compare() {
     head("record", ", ns");
     for case in CASES {
-        let times = rounds(DECODERS, &case.work(RECORDS));
-        let medians = times.iter().map(|times| format!("{:.0}", Spread::of(times.clone()).median()));
-        let ratios = times[1..].iter().map(|other| show(&ratio(&times[0], other)));
-        row(&case.name(), medians, ratios);
+        let readers: Vec<Decoder> = DECODERS.iter().copied().filter(|decoder| decoder.reads(&case)).collect();
+        let times = spread_out(&case, rounds(&readers, &case.work(RECORDS)));
+        let median = |times: &Vec<f64>| format!("{:.0}", Spread::of(times.clone()).median());
+        row_of(&case, &times, median, |proved, other| show(&ratio(proved, other)));
     }
 }
 
@@ -156,9 +174,9 @@ fn instructions() {
             let turns = collected(decoder, case, MANY) - collected(decoder, case, FEW);
             turns as f64 / f64::from((MANY - FEW) * RECORDS)
         };
-        let counts: Vec<f64> = DECODERS.iter().map(count).collect();
-        let ratios = counts[1..].iter().map(|other| format!("{:.2}", counts[0] / other));
-        row(&CASES[case].name(), counts.iter().map(|count| format!("{count:.0}")), ratios);
+        let readers = DECODERS.iter().filter(|decoder| decoder.reads(&CASES[case]));
+        let counts = spread_out(&CASES[case], readers.map(count).collect());
+        row_of(&CASES[case], &counts, |count| format!("{count:.0}"), |proved, other| format!("{:.2}", proved / other));
     }
 }
 

@@ -9,6 +9,8 @@ const START: u32 = 1_000;
 const STEP: u32 = 16;
 /// How far a mate is behind the first segment.
 const DELTA: u32 = 200;
+/// How far a piece is behind the end of the one before it.
+const GAP: u32 = 100;
 const BASES: usize = 32_768;
 
 #[derive(Clone, Copy)]
@@ -18,6 +20,8 @@ pub struct Case {
     pub segments: u8,
     pub bases: u16,
     pub edits: u16,
+    /// Of each read; more than one in class I alone.
+    pub pieces: u8,
 }
 
 /// Everything that the record calls of a unit are lent, for both decoders.
@@ -30,6 +34,9 @@ pub struct Work {
     pub counts: Vec<u32>,
     pub narrow_counts: Vec<u16>,
     pub lines: Vec<Vec<u8>>,
+    /// The same lines as they were before reads over introns, for the archive of a commit that reads no others.
+    #[cfg(without_pieces)]
+    pub lines_without_pieces: Vec<Vec<u8>>,
     /// Bytes of each listed line, which the second decoder says.
     pub listed: usize,
 }
@@ -47,7 +54,8 @@ impl Work {
 impl Case {
     pub fn name(&self) -> String {
         let alphabet = if self.alphabet == 0 { "" } else { ", alphabet 1" };
-        format!("{}{alphabet}, {} x {} bases, {} edits", self.class, self.segments, self.bases, self.edits)
+        let pieces = if self.pieces == 1 { String::new() } else { format!(", {} pieces", self.pieces) };
+        format!("{}{alphabet}, {} x {} bases, {} edits{pieces}", self.class, self.segments, self.bases, self.edits)
     }
 
     pub fn work(&self, records: u16) -> Work {
@@ -85,39 +93,64 @@ impl Case {
             counts: lists.iter().map(|list| list.len() as u32).collect(),
             narrow_counts: lists.iter().map(|list| list.len() as u16).collect(),
             lists,
-            lines: (0..u32::from(records)).map(|record| self.line(START + record * STEP)).collect(),
+            lines: self.lines(records, true),
+            #[cfg(without_pieces)]
+            lines_without_pieces: self.lines(records, false),
             listed: 0,
         };
         work.listed = work.first_listed();
         work
     }
 
-    /// Pairs in one record: code 0 and twice the delta for each. A template of one segment takes nothing.
+    /// Pairs in one record: code 0 and twice the delta for each. A template of one segment takes nothing. Then of each segment
+    /// code 0 and twice the gap for each piece behind its first.
     fn symbols(&self, records: u16) -> Vec<Vec<u32>> {
         let mut lists = vec![Vec::new(); SUBSEQUENCES];
-        if self.segments == 2 {
-            lists[0] = vec![0; records.into()];
-            lists[1] = vec![2 * DELTA; records.into()];
+        let splices = usize::from(self.segments) * usize::from(self.pieces - 1);
+        for _ in 0..records {
+            if self.segments == 2 {
+                lists[0].push(0);
+                lists[1].push(2 * DELTA);
+            }
+            lists[0].extend(vec![0; splices]);
+            lists[1].extend(vec![2 * GAP; splices]);
         }
         lists
     }
 
-    fn line(&self, pos: u32) -> Vec<u8> {
+    fn lines(&self, records: u16, pieces: bool) -> Vec<Vec<u8>> {
+        (0..u32::from(records)).map(|record| self.line(START + record * STEP, pieces)).collect()
+    }
+
+    fn line(&self, pos: u32, pieces: bool) -> Vec<u8> {
         let mut frame = vec![3];
         frame.extend(pos.to_be_bytes());
         for _ in 0..self.segments {
-            self.block(&mut frame);
+            self.block(&mut frame, pieces);
         }
         let mut line: Vec<u8> = frame.iter().flat_map(|byte| format!("{byte:02x}").into_bytes()).collect();
         line.push(b'\n');
         line
     }
 
+    /// The number of pieces and their lengths: equal ones, and what is left over in the last.
+    fn pieces(&self, frame: &mut Vec<u8>) {
+        let each = self.bases / u16::from(self.pieces);
+        frame.push(self.pieces);
+        for _ in 1..self.pieces {
+            frame.extend(each.to_be_bytes());
+        }
+        frame.extend((self.bases - each * u16::from(self.pieces - 1)).to_be_bytes());
+    }
+
     /// Edits spread evenly over the read; in class I every second one is an insertion or a deletion.
-    fn block(&self, frame: &mut Vec<u8>) {
+    fn block(&self, frame: &mut Vec<u8>, pieces: bool) {
         frame.extend(self.bases.to_be_bytes());
         frame.push(0);
         if self.class == 'I' {
+            if pieces {
+                self.pieces(frame);
+            }
             frame.extend([0; 8]);
         }
         if self.class == 'P' {
