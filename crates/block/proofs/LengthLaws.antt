@@ -4,18 +4,21 @@ use mathlib.Core.Path.{_≡_, refl}
 use mathlib.Core.List.{List, [], _∷_}
 use Prim.Native.Nat.{ℕ, zero, suc, _+_, _-_, _*_, _<_, _≤_}
 use native.Mathlib.Omega.{arith}
-use borrow.Author.Tests.{lt-ltb, le-ltb}
+use borrow.Author.Tests.{lt-ltb, le-ltb, ltb-true, ltb-false}
+use lib.Dec.{ltb}
 use lib.ListN.{length}
 use Rattle.refusal.specs.Numbers.{misframed, lengthOut}
 use Rattle.frame.specs.Field.{bigAt, fieldAt}
 use Rattle.frame.specs.declared.field.Cursor.{Cursor}
 use Rattle.frame.specs.declared.field.Field.the-variants as frame
+use Rattle.frame.proofs.Tests.{by-test}
 use Rattle.frame.proofs.StepLaws.{past-field, past-refusal, past-match}
 use Rattle.state.specs.Listed.{wordsAt}
 use Rattle.edits.specs.Pieces.{sumOf, lastLength}
 use Rattle.edits.proofs.PieceLaws.{NoneZero}
 use Rattle.splices.specs.code.Walk.{lengthsIn}
 use Rattle.splices.specs.declared.Splices.{Splices}
+use Rattle.splices.proofs.WalkLaws.{length-past}
 use Rattle.block.specs.declared.checked.CheckedField.the-variants.{Value, Refused}
 use Rattle.block.specs.Checked.{sumIn, lengthsFrom}
 
@@ -85,6 +88,12 @@ last-word bytes (suc k) at = let e : at + 2 * suc k ≡ at + 2 + 2 * k = omega a
 -- where the code reads it
 pub last-length : (bytes : List ℕ) (s : Splices) → 2 ≤ s .count → lastLength (lengthsIn bytes s) ≡ bigAt 2 bytes (s .«lengths_at» + 2 * (s .count - 1))
 last-length bytes s h = let e : suc (s .count - 1) ≡ s .count = omega arith in rw e at (last-word bytes (s .count - 1) (s .«lengths_at»))
+
+-- a length that is not 0 stands in the frame
+pub length-inside : (bytes : List ℕ) (at : ℕ) → 0 < bigAt 2 bytes at → at < length bytes
+length-inside bytes at h =
+    by-test (ltb at (length bytes)) (ltb-true at (length bytes))
+    (λ e. absurd (omega (arith, h, length-past bytes at (ltb-false at (length bytes) e))))
 
 last-below : (n : ℕ) (ns : List ℕ) → lastLength (n ∷ ns) ≤ sumOf (n ∷ ns)
 unfolding lastLength sumOf

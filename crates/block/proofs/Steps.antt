@@ -2,24 +2,28 @@
 -- `search` walks the definition by itself.
 -- Assumes nothing.
 use mathlib.Core.Path.{_≡_, refl, sym, ap, _∙_}
-use mathlib.Core.Bool.{cond}
+use mathlib.Core.Bool.{Bool, true, false, cond}
 use mathlib.Core.List.{List}
 use Prim.Native.Nat.{ℕ, _<_, _≤_}
 use native.Mathlib.Omega.{arith}
 use borrow.Author.Tests.{lt-ltb, le-leb, lt-leb}
-use lib.Dec.{leb}
+use lib.Dec.{ltb, leb, eqb}
 use Rattle.frame.specs.declared.field.Cursor.{Cursor}
 use Rattle.state.specs.declared.State.{State}
-use Rattle.unit.specs.Unit.{classI}
+use Rattle.unit.specs.Unit.{classP, classI}
 use Rattle.taking.specs.Steps.{Steps, refuses, Came, came, stopped, cameNumber, decode}
+use Rattle.edits.specs.Lengths.{noClips}
 use Rattle.edits.specs.declared.Clips.{Clips}
 use Rattle.edits.specs.declared.Block.{Block}
 use Rattle.splices.specs.declared.Splices.{Splices}
 use Rattle.ecigar.specs.declared.check.EditsChecked.{EditsChecked}
 use Rattle.ecigar.specs.declared.check.EditsChecked.the-variants as edits
 use Rattle.taking.proofs.Reading.{Quiet}
-use Rattle.block.specs.Checked.{lengthAt, rcompAt, afterChecked}
-use Rattle.block.specs.Aligned.{afterClips, afterEdits, fromSoft}
+use Rattle.block.specs.Checked.{lengthAt, rcompAt, countAt, valueBefore, afterChecked}
+use Rattle.block.specs.Clips.{clipsAt}
+use Rattle.block.specs.Symbols.{symbolsFrom}
+use Rattle.block.specs.code.Flow.{clipsBy, editCount}
+use Rattle.block.specs.Aligned.{blockOf, afterClips, afterEdits, editsTallied, fromEdits, fromSoft, fromClips}
 use Rattle.block.specs.Head.{headNumber, fromPieces, fromRcomp, headAt, headMoved}
 use Rattle.block.specs.declared.head.BlockHead.{BlockHead}
 use Rattle.block.specs.declared.head.HeadMoved.{HeadMoved}
@@ -96,7 +100,30 @@ module _ (x : AlignedRead) (answer spec : Clipped) (class alphabet : ℕ) (frame
   pub unclipped : (n : ℕ) → answer ≡ spec → answer ≡ clips.Refused n → x ≡ block.Refused n → x ≡ afterClips class alphabet frame length rcomp splices spec
   unclipped n e h k = rw (← e, h) k
 
+  -- the clips of a class, which may have none
+  pub clips-taken : (at : ℕ) → x ≡ afterClips class alphabet frame length rcomp splices (clipsBy class frame length splices at) → x ≡ fromClips class alphabet frame length rcomp splices at
+  unfolding fromClips clipsBy fromSoft symbolsFrom
+  clips-taken at k = k ∙ by (ltb class classI)
+    where
+      by : (b : Bool) → afterClips class alphabet frame length rcomp splices (cond b (clips.Whole noClips (record { at = at })) (clipsAt frame length splices at))
+          ≡ cond b (fromEdits class alphabet frame length rcomp splices noClips at at) (afterClips class alphabet frame length rcomp splices (clipsAt frame length splices at))
+      by true = refl
+      by false = refl
+
 -- ---- the edits
+
+-- as many as the class has
+module _ (x : AlignedRead) (class alphabet : ℕ) (frame : List ℕ) (length rcomp : ℕ) (splices : Splices) (c : Clips) (softAt at : ℕ) where
+  abbrev tallied : ℕ → Cursor → AlignedRead
+  tallied count next = editsTallied class alphabet frame (blockOf length rcomp c softAt count (next .at)) splices
+
+  pub edits-counted : x ≡ afterChecked block.Refused (editCount class frame at) tallied → x ≡ fromEdits class alphabet frame length rcomp splices c softAt at
+  unfolding fromEdits editCount
+  edits-counted k = k ∙ by (eqb class classP)
+    where
+      by : (b : Bool) → afterChecked block.Refused (cond b (valueBefore 0 at) (countAt frame at)) tallied ≡ cond b (tallied 0 (record { at = at })) (afterChecked block.Refused (countAt frame at) tallied)
+      by true = refl
+      by false = refl
 
 module _ (x : AlignedRead) (answer spec : EditsChecked) (class : ℕ) (s : Block) (splices : Splices) where
   pub edited : (taken text : ℕ) → answer ≡ spec → answer ≡ edits.Fine taken text → x ≡ afterEdits class s splices (edits.Fine taken text) → x ≡ afterEdits class s splices spec
@@ -106,4 +133,4 @@ module _ (x : AlignedRead) (answer spec : EditsChecked) (class : ℕ) (s : Block
   unedited n e h k = rw (← e, h) k
 
 -- each of them, for `search`
-pub ruleset blockSteps = (field-accepted, field-rejected, moved-accepted, moved-rejected, clipped, unclipped, edited, unedited)
+pub ruleset blockSteps = (field-accepted, field-rejected, moved-accepted, moved-rejected, clipped, unclipped, clips-taken, edits-counted, edited, unedited)

@@ -13,7 +13,7 @@ use splices::Splices;
 use unit::Unit;
 ghost use mathlib.Core.Path.{_≡_};
 ghost use Rattle.block.specs.Aligned.{alignedAt, fromClips, fromSoft, fromEdits, editsTallied};
-ghost use Rattle.block.specs.code.Ready.{LengthsFramed};
+ghost use Rattle.block.specs.code.Flow.{clipsBy, editCount};
 
 // A segment that its block gives, its pieces, the reference positions that it takes, the length of its E-CIGAR without splices, and the place behind the block.
 pub struct AlignedBlock {
@@ -31,7 +31,6 @@ pub enum AlignedRead {
 
 // The fields of an aligned block behind its head.
 pub fn read_block(frame: &[u8], class: u32, alphabet: u32, head: BlockHead) -> AlignedRead
-    requires { ⌜ LengthsFramed (now frame) (head .splices) ⌝ }
     ensures { λ r. ⌜ r ≡ alignedAt class alphabet (now (frame .entry)) head ⌝ }
 {
     let next = head.next;
@@ -48,6 +47,16 @@ pub fn read_block(frame: &[u8], class: u32, alphabet: u32, head: BlockHead) -> A
 }
 
 // Only classes I and HM have clips.
+fn clips_of(frame: &[u8], class: u32, length: u32, splices: Splices, c: Cursor) -> Clipped
+    ensures { λ r. ⌜ r ≡ clipsBy class (now (frame .entry)) length splices (c .at) ⌝ }
+{
+    if class < Unit::I {
+        return Clipped::Whole(Clips::none(), c);
+    }
+    read_clips(frame, length, splices, c)
+}
+
+// One way for every class, with no clips where it has none: each step is called from one place, and the compiler lays all of them into one (docs/BENCHMARK.md).
 fn from_clips(
     frame: &[u8],
     class: u32,
@@ -57,24 +66,9 @@ fn from_clips(
     splices: Splices,
     c: Cursor,
 ) -> AlignedRead
-    requires { ⌜ LengthsFramed (now frame) splices ⌝ }
     ensures { λ r. ⌜ r ≡ fromClips class alphabet (now (frame .entry)) length rcomp splices (c .at) ⌝ }
 {
-    let at = c.at;
-    if class < Unit::I {
-        return from_edits(
-            frame,
-            class,
-            alphabet,
-            length,
-            rcomp,
-            splices,
-            Clips::none(),
-            at,
-            c,
-        );
-    }
-    match read_clips(frame, length, splices, c) {
+    match clips_of(frame, class, length, splices, c) {
         Clipped::Refused(n) => AlignedRead::Refused(n),
         Clipped::Whole(clips, next) => from_soft(
             frame,
@@ -119,6 +113,15 @@ fn from_soft(
 }
 
 // Class P has no edits.
+fn edit_count(frame: &[u8], class: u32, c: Cursor) -> CheckedField
+    ensures { λ r. ⌜ r ≡ editCount class (now (frame .entry)) (c .at) ⌝ }
+{
+    if class == Unit::P {
+        return CheckedField::Value(0, c);
+    }
+    read_count(frame, c)
+}
+
 fn from_edits(
     frame: &[u8],
     class: u32,
@@ -132,19 +135,7 @@ fn from_edits(
 ) -> AlignedRead
     ensures { λ r. ⌜ r ≡ fromEdits class alphabet (now (frame .entry)) length rcomp splices clips «soft_at» (c .at) ⌝ }
 {
-    let at = c.at;
-    if class == Unit::P {
-        let block = Block {
-            length,
-            rcomp,
-            clips,
-            soft_at,
-            edits: 0,
-            edits_at: at,
-        };
-        return tally(frame, class, alphabet, block, splices);
-    }
-    match read_count(frame, c) {
+    match edit_count(frame, class, c) {
         CheckedField::Refused(n) => AlignedRead::Refused(n),
         CheckedField::Value(edits, next) => {
             let block = Block {

@@ -7,7 +7,6 @@ use splices::walk::length_at;
 ghost use mathlib.Core.Path.{_≡_};
 ghost use Prim.Native.Nat.{_≤_};
 ghost use Rattle.block.specs.Clips.{clipsAt, clipsIn, clipsInRead, clipsInPieces};
-ghost use Rattle.block.specs.code.Ready.{LengthsFramed};
 
 // The clips and the place behind them, or the refusal's number.
 pub enum Clipped {
@@ -17,7 +16,6 @@ pub enum Clipped {
 
 // Left soft, left hard, right soft, right hard; refused once all four are read where the soft ones leave the read, or a piece of it, no base.
 pub(crate) fn read_clips(frame: &[u8], length: u32, splices: Splices, c: Cursor) -> Clipped
-    requires { ⌜ LengthsFramed (now frame) splices ⌝ }
     ensures { λ r. ⌜ r ≡ clipsAt (now (frame .entry)) length splices (c .at) ⌝ }
 {
     let Field::Value(left_soft, c1) = frame::bytes::read_u16(frame, c) else {
@@ -42,7 +40,6 @@ pub(crate) fn read_clips(frame: &[u8], length: u32, splices: Splices, c: Cursor)
 }
 
 fn within(frame: &[u8], clips: Clips, length: u32, splices: Splices, next: Cursor) -> Clipped
-    requires { ⌜ LengthsFramed (now frame) splices ⌝ }
     ensures { λ r. ⌜ r ≡ clipsIn clips (now (frame .entry)) length splices (next .at) ⌝ }
 {
     if splices.count < 2 {
@@ -63,14 +60,14 @@ fn within_read(clips: Clips, length: u32, next: Cursor) -> Clipped
 
 // A read over introns: the left soft clip does not reach the first piece's length, nor the right one the last's.
 fn within_pieces(frame: &[u8], clips: Clips, splices: Splices, next: Cursor) -> Clipped
-    requires { ⌜ LengthsFramed (now frame) splices × (2 ≤ splices .count) ⌝ }
+    requires { ⌜ 2 ≤ splices .count ⌝ }
     ensures { λ r. ⌜ r ≡ clipsInPieces clips (now (frame .entry)) splices (next .at) ⌝ }
 {
     let first = splices.lengths_at;
-    let last = first + 2 * (splices.count as usize - 1);
     if length_at(frame, first) <= clips.left_soft as u32 {
         return Clipped::Refused(refusal::CLIPS_OUT);
     }
+    let last = first + 2 * (splices.count as usize - 1);
     if length_at(frame, last) <= clips.right_soft as u32 {
         return Clipped::Refused(refusal::CLIPS_OUT);
     }

@@ -8,7 +8,7 @@ use native.Mathlib.Omega.{arith}
 use native.Mathlib.Nat.{add-zero, zero-add}
 use borrow.Author.Tests.{lt-ltb, le-ltb, ltb-true, ltb-false}
 use lib.Dec.{ltb}
-use lib.ListN.{length}
+use lib.ListN.{length, List·getD-eq-default}
 use Rattle.frame.specs.Field.{bigAt}
 use Rattle.frame.proofs.Tests.{by-test}
 use Rattle.state.specs.Listed.{wordsAt}
@@ -19,6 +19,7 @@ use Rattle.edits.specs.code.Runs.{runOf}
 use Rattle.edits.specs.declared.edit.Edit.{Edit}
 use Rattle.edits.specs.declared.Block.{Block}
 use Rattle.edits.specs.declared.Run.{Run}
+use Rattle.edits.proofs.EditLaws.{offset-bytes}
 use Rattle.edits.proofs.PieceLaws.{edit-offset, before-first, behind-rest, before-most}
 use Rattle.splices.specs.declared.Splices.{Splices}
 use Rattle.splices.specs.declared.mapping.Mapping.{Mapping}
@@ -38,6 +39,12 @@ before-alike class alphabet frame (suc k) at offset =
     (by-test (ltb (bigAt 2 frame at) offset)
     (λ t. rw t (ap suc (before-alike class alphabet frame k (at + widthOf class) offset)))
     (λ t. rw t refl))
+
+-- ---- a length that would stand behind the frame's end
+
+pub length-past : (frame : List ℕ) (at : ℕ) → length frame ≤ at → bigAt 2 frame at ≡ 0
+length-past frame at h =
+    offset-bytes frame at ∙ rw (List·getD-eq-default {A = ℕ} frame 0 {n = at} h, List·getD-eq-default {A = ℕ} frame 0 {n = at + 1} (omega (arith, h))) (omega arith)
 
 -- ---- a piece that was cut
 

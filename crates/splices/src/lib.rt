@@ -8,8 +8,8 @@ ghost use Rattle.splices.specs.code.Walk.{unspliced, NarrowSplices};
 
 // How many pieces a read has, where their lengths stand in the frame, and where their symbols stand: how many of subsequences 0, 1 and 3 are taken before them.
 pub struct Splices {
-    pub count: u32,
     pub lengths_at: usize,
+    pub count: u32,
     pub codes: u32,
     pub deltas: u32,
     pub places: u32,

@@ -9,7 +9,7 @@ use edits::piece::count_before;
 use edits::run_of;
 ghost use mathlib.Core.Path.{_≡_};
 ghost use Prim.Native.Nat.{ℕ, suc, _+_, _*_, _^_, _<_, _≤_};
-ghost use lib.ListN.{length};
+ghost use lib.ListN.{length, getD};
 ghost use Rattle.frame.specs.Field.{bigAt};
 ghost use Rattle.edits.specs.Edits.{widthOf};
 ghost use Rattle.edits.specs.code.Runs.{runOf};
@@ -34,12 +34,24 @@ fn wide(b: u8) -> u32
     b as u32
 }
 
-// The length at a place of the frame.
+// A byte of the frame; 0 behind its end.
+fn byte_at(frame: &[u8], at: usize) -> u32
+    ensures { λ r. ⌜ (r ≡ getD (now (frame .entry)) at 0) × (r < 256) ⌝ }
+{
+    if frame.len() <= at {
+        return 0;
+    }
+    wide(frame[at])
+}
+
+// The length at a place of the frame; bytes behind the frame's end count as 0.
 pub fn length_at(frame: &[u8], at: usize) -> u32
-    requires { ⌜ at + 2 ≤ length (now frame) ⌝ }
     ensures { λ r. ⌜ (r ≡ bigAt 2 (now (frame .entry)) at) × (r < 2 ^ 16) ⌝ }
 {
-    wide(frame[at]) * 256 + wide(frame[at + 1])
+    if frame.len() <= at {
+        return 0;
+    }
+    byte_at(frame, at) * 256 + byte_at(frame, at + 1)
 }
 
 // A piece that ends at `until` and has the edits before it; the last ends with the mapped bases, and has all edits that are left.
@@ -114,7 +126,8 @@ pub fn next_piece(frame: &[u8], symbols: &[u32], class: u32, mapped: u32, w: Pie
     let at = w.lengths_at;
     let behind = at + 2;
     let m = w.mapping;
-    let mapping = following_piece(symbols, m, length_at(frame, at));
+    let length = length_at(frame, at);
+    let mapping = following_piece(symbols, m, length);
     let run = Run {
         mapped,
         edits: w.behind,

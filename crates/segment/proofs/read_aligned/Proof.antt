@@ -9,7 +9,7 @@ use Rattle.segment.proofs.read_aligned.Statement.{statement}
 use Rattle.segment.proofs.read_aligned.Tie as tie
 
 read-block-requires : tie.Need-read-block-requires
-read-block-requires c κs = c .before .before .before .pre .0 .splices
+read-block-requires c κs = search needs
 
 enum-known-n : tie.Need-enum-known-n
 enum-known-n c = search needs

@@ -1,20 +1,12 @@
 -- `block::aligned::from_edits` meets its contract: each step of the definition follows from what was read. Assumes nothing.
 use Rattle.frame.proofs.StepLaws.{steps}
 use Rattle.block.proofs.Steps.{blockSteps}
-use Rattle.block.specs.Aligned.{fromEdits}
 use borrow.Author.Needs.{needs}
 use Rattle.block.proofs.aligned.from_edits.Statement.{statement}
 use Rattle.block.proofs.aligned.from_edits.Tie as tie
 
-tally-requires : tie.Need-tally-requires
-tally-requires c κs = search needs
-
-returns : tie.Need-returns
-unfolding fromEdits
-returns c = search (steps, blockSteps)
-
-read-count-requires : tie.Need-read-count-requires
-read-count-requires c κs = search needs
+edit-count-requires : tie.Need-edit-count-requires
+edit-count-requires c κs = search needs
 
 enum-known-n : tie.Need-enum-known-n
 enum-known-n c = search needs
@@ -22,26 +14,22 @@ enum-known-n c = search needs
 enum-known-edits : tie.Need-enum-known-edits
 enum-known-edits c = search needs
 
-tally-requires-2 : tie.Need-tally-requires-2
-tally-requires-2 c κs = search needs
+tally-requires : tie.Need-tally-requires
+tally-requires c κs = search needs
+
+returns : tie.Need-returns
+returns c = search (steps, blockSteps)
 
 returns-2 : tie.Need-returns-2
-unfolding fromEdits
 returns-2 c = search (steps, blockSteps)
-
-returns-3 : tie.Need-returns-3
-unfolding fromEdits
-returns-3 c = search (steps, blockSteps)
 
 pub from-edits-spec : {M : Type 1} → statement M
 from-edits-spec =
     tie.close
     (tie.spec
-    tally-requires
-    returns
-    read-count-requires
+    edit-count-requires
     enum-known-n
     enum-known-edits
-    tally-requires-2
-    returns-2
-    returns-3)
+    tally-requires
+    returns
+    returns-2)
