@@ -28,7 +28,7 @@ ghost use Rattle.edits.specs.Edits.{widthOf, editsAt};
 ghost use Rattle.edits.specs.code.Runs.{substitutesOnly};
 ghost use Rattle.edits.specs.Lengths.{softBases};
 ghost use Rattle.bases.specs.Reference.{matchedBases, matchRefusal};
-ghost use Rattle.bases.specs.Bases.{R, r, pointers, editBases, basesFrom, refusalFrom, mappedBases, referenceRefusal, basesText};
+ghost use Rattle.bases.specs.Bases.{R, r, pointers, editBases, basesFrom, refusalFrom, mappedBases, referenceRefusal, lettersAt, basesText};
 ghost use Rattle.bases.specs.code.Helpers.{farthest};
 
 // Refusal 10 where a lent byte outside the alphabet stands at one of so many positions, else 0.
@@ -279,6 +279,25 @@ fn put_run(
     )
 }
 
+// The soft-clipped bases of one side; most reads have none, and no loop is set up for them.
+fn put_soft(
+    out: &mut [u8],
+    at: usize,
+    frame: &[u8],
+    alphabet: u32,
+    start: usize,
+    end: usize,
+) -> usize
+    requires { ⌜ (start ≤ end) × (end ≤ length (now frame)) ⌝ }
+    requires { ⌜ at + 2 * (end - start) ≤ length (now out) ⌝ }
+    ensures { λ a. ⌜ Laid (now (out .entry)) (now (out .exit)) at a (lettersAt alphabet (now (frame .entry)) start (end - start)) ⌝ }
+{
+    if end <= start {
+        return at;
+    }
+    put_letters(out, at, frame, alphabet, start, end)
+}
+
 // A whole read, laid as digits: left soft clip, run, right soft clip.
 pub fn write(
     out: &mut [u8],
@@ -300,7 +319,7 @@ pub fn write(
     let left = block.soft_at;
     let right = left + clips.left_soft as usize;
     let end = right + clips.right_soft as usize;
-    let mapped = put_letters(out, at, frame, alphabet, left, right);
+    let mapped = put_soft(out, at, frame, alphabet, left, right);
     let behind = put_run(
         out,
         mapped,
@@ -312,5 +331,5 @@ pub fn write(
         class,
         run,
     );
-    put_letters(out, behind, frame, alphabet, right, end)
+    put_soft(out, behind, frame, alphabet, right, end)
 }

@@ -144,11 +144,11 @@ record PastClips (frame : List ℕ) (readLength : ℕ) (s : Splices) (whole : Cl
   pub same : c ≡ whole
   pub place : next .at ≡ at
 
-past-clips : (frame : List ℕ) (readLength : ℕ) (s : Splices) (whole : Clips) (at : ℕ) (c : Clips) (next : Cursor) → clipsIn whole frame readLength s at ≡ clips.Whole c next
+past-clips : (frame : List ℕ) (readLength : ℕ) (s : Splices) (whole : Clips) (at : ℕ) (c : Clips) (next : Cursor) → clipsIn whole frame readLength s at ≡ clips.Whole next c
     → PastClips frame readLength s whole at c next
 unfolding clipsIn clipsInRead clipsInPieces
 past-clips frame readLength s whole at c next q =
-    let never : clips.Refused 9 ≡ clips.Whole c next → ⊥ = λ e. (let z : _≡_ {A = ℕ} 0 1 = cc in omega arith) in
+    let never : clips.Refused 9 ≡ clips.Whole next c → ⊥ = λ e. (let z : _≡_ {A = ℕ} 0 1 = cc in omega arith) in
     by-test (ltb (s .count) 2)
     (λ t. by-test (leb readLength (softBases whole)) (λ u. absurd (never (simp (t, u) at q)))
     (λ u.
@@ -166,10 +166,10 @@ past-clips frame readLength s whole at c next q =
       place = cc;
     })))
 
-pub clips-got : (frame : List ℕ) (readLength : ℕ) (s : Splices) (at : ℕ) (c : Clips) (next : Cursor) → clipsAt frame readLength s at ≡ clips.Whole c next → GotClips frame readLength s at c (next .at)
+pub clips-got : (frame : List ℕ) (readLength : ℕ) (s : Splices) (at : ℕ) (c : Clips) (next : Cursor) → clipsAt frame readLength s at ≡ clips.Whole next c → GotClips frame readLength s at c (next .at)
 unfolding clipsAt
 clips-got frame readLength s at c next q =
-    let never : (n : ℕ) → clips.Refused n ≡ clips.Whole c next → ⊥ = λ n e. (let z : _≡_ {A = ℕ} 0 1 = cc in omega arith) in
+    let never : (n : ℕ) → clips.Refused n ≡ clips.Whole next c → ⊥ = λ n e. (let z : _≡_ {A = ℕ} 0 1 = cc in omega arith) in
     let a = past-field _ (never misframed) 2 frame at _ q in
     let b = past-field _ (never misframed) 2 frame (at + 2) _ (a .rest) in
     let d = past-field _ (never misframed) 2 frame (at + 2 + 2) _ (b .rest) in
@@ -336,7 +336,7 @@ module _ (class alphabet : ℕ) (frame : List ℕ) (readLength rcomp : ℕ) (s :
     where
       by : classI ≤ class → (x : Clipped) → clipsAt frame readLength s at ≡ x → afterClips class alphabet frame readLength rcomp s x ≡ Whole a → ReadyBlock class alphabet frame a
       by clipped (clips.Refused n) e z = absurd (let y : _≡_ {A = ℕ} 0 1 = cc in omega arith)
-      by clipped (clips.Whole c next) e z =
+      by clipped (clips.Whole next c) e z =
           let g = clips-got frame readLength s at c next e in
           soft-ready c (next .at) z
           (λ symbols room. record { least = one; most = most; soft = soft-below c (sum clipped) (g .clipsWithin); fit = g .fit; bare = λ e. absurd (omega arith); symbols = symbols; clipped = room })
@@ -382,7 +382,7 @@ block-head class alphabet frame h a q =
 
     by : (x : Clipped) → afterClips class alphabet frame (h .length) (h .rcomp) (h .splices) x ≡ Whole a → OfItsHead h a
     by (clips.Refused n) z = absurd (let y : _≡_ {A = ℕ} 0 1 = cc in omega arith)
-    by (clips.Whole c next) z =
+    by (clips.Whole next c) z =
         checked-whole (symbolsFrom alphabet frame (softBases c) (softBases c) (next .at)) _ a z (λ v behind e r. past-edits c (next .at) (behind .at) r)
 
 -- ---- every head that is accepted

@@ -49,7 +49,7 @@ EarlyField (checked.Value v next) = Unit
 EarlyField (checked.Refused n) = Early n
 
 abbrev EarlyClips : Clipped → Type 0
-EarlyClips (clips.Whole c next) = Unit
+EarlyClips (clips.Whole next c) = Unit
 EarlyClips (clips.Refused n) = Early n
 
 abbrev pub EarlyBlock : AlignedRead → Type 0
@@ -150,7 +150,7 @@ module _ (class alphabet : ℕ) (frame : List ℕ) (readLength rcomp : ℕ) (spl
       one-of EarlyBlock (ltb class classI) _ _ (from-edits-early _ at at) (by (clipsAt frame readLength splices at) (clips-early frame readLength splices at))
     where
       by : (x : Clipped) → EarlyClips x → EarlyBlock (afterClips class alphabet frame readLength rcomp splices x)
-      by (clips.Whole c next) h = soft-early c (next .at)
+      by (clips.Whole next c) h = soft-early c (next .at)
       by (clips.Refused n) h = h
 
 pub aligned-early : (class alphabet : ℕ) (frame : List ℕ) (h : BlockHead) → EarlyBlock (alignedAt class alphabet frame h)

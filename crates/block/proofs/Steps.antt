@@ -94,7 +94,7 @@ module _ (x : Clipped) (soft answer spec : ℕ) (p q : Clipped) (e : answer ≡ 
   clip-below h k = rw (← e, lt-leb answer soft h) k
 
 module _ (x : AlignedRead) (answer spec : Clipped) (class alphabet : ℕ) (frame : List ℕ) (length rcomp : ℕ) (splices : Splices) where
-  pub clipped : (c : Clips) (next : Cursor) → answer ≡ spec → answer ≡ clips.Whole c next → x ≡ fromSoft class alphabet frame length rcomp splices c (next .at) → x ≡ afterClips class alphabet frame length rcomp splices spec
+  pub clipped : (c : Clips) (next : Cursor) → answer ≡ spec → answer ≡ clips.Whole next c → x ≡ fromSoft class alphabet frame length rcomp splices c (next .at) → x ≡ afterClips class alphabet frame length rcomp splices spec
   clipped c next e h k = rw (← e, h) k
 
   pub unclipped : (n : ℕ) → answer ≡ spec → answer ≡ clips.Refused n → x ≡ block.Refused n → x ≡ afterClips class alphabet frame length rcomp splices spec
@@ -105,7 +105,7 @@ module _ (x : AlignedRead) (answer spec : Clipped) (class alphabet : ℕ) (frame
   unfolding fromClips clipsBy fromSoft symbolsFrom
   clips-taken at k = k ∙ by (ltb class classI)
     where
-      by : (b : Bool) → afterClips class alphabet frame length rcomp splices (cond b (clips.Whole noClips (record { at = at })) (clipsAt frame length splices at))
+      by : (b : Bool) → afterClips class alphabet frame length rcomp splices (cond b (clips.Whole (record { at = at }) noClips) (clipsAt frame length splices at))
           ≡ cond b (fromEdits class alphabet frame length rcomp splices noClips at at) (afterClips class alphabet frame length rcomp splices (clipsAt frame length splices at))
       by true = refl
       by false = refl

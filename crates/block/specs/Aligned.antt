@@ -73,7 +73,7 @@ fromSoft class alphabet frame length rcomp splices c at =
 
 abbrev pub afterClips : (class alphabet : ℕ) (frame : List ℕ) (length rcomp : ℕ) → Splices → Clipped → AlignedRead
 afterClips class alphabet frame length rcomp splices (clips.Refused n) = Refused (clippedNumber (clips.Refused n))
-afterClips class alphabet frame length rcomp splices (clips.Whole c next) = fromSoft class alphabet frame length rcomp splices c (next .at)
+afterClips class alphabet frame length rcomp splices (clips.Whole next c) = fromSoft class alphabet frame length rcomp splices c (next .at)
 
 -- in I and HM the clips and the soft-clipped bases
 unfoldable pub fromClips : (class alphabet : ℕ) (frame : List ℕ) (length rcomp : ℕ) → Splices → (at : ℕ) → AlignedRead

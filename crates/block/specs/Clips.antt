@@ -17,7 +17,7 @@ use Rattle.block.specs.declared.clips.Clipped.the-variants.{Whole, Refus
 
 -- document 01's number of an answer
 abbrev pub clippedNumber : Clipped → ℕ
-clippedNumber (Whole clips next) = fine
+clippedNumber (Whole next clips) = fine
 clippedNumber (Refused n) = n
 
 -- left soft, left hard, right soft, right hard
@@ -26,13 +26,13 @@ clipsOf ls lh rs rh = record { «left_soft» = ls; «left_hard» = lh; «right_s
 
 -- of a read of one piece: 9 where soft clips reach the read length
 unfoldable pub clipsInRead : Clips → (length next : ℕ) → Clipped
-clipsInRead clips length next = cond (leb length (softBases clips)) (Refused clipsOut) (Whole clips (record { at = next }))
+clipsInRead clips length next = cond (leb length (softBases clips)) (Refused clipsOut) (Whole (record { at = next }) clips)
 
 -- of a read over introns: 9 where the left soft clip reaches the first piece's length, or the right one the last's
 unfoldable pub clipsInPieces : Clips → (frame : List ℕ) → Splices → (next : ℕ) → Clipped
 clipsInPieces clips frame splices next =
     cond (leb (bigAt 2 frame (splices .«lengths_at»)) (clips .«left_soft»)) (Refused clipsOut)
-    (cond (leb (lastLength (lengthsIn frame splices)) (clips .«right_soft»)) (Refused clipsOut) (Whole clips (record { at = next })))
+    (cond (leb (lastLength (lengthsIn frame splices)) (clips .«right_soft»)) (Refused clipsOut) (Whole (record { at = next }) clips))
 
 -- 9 by how many pieces the read has
 unfoldable pub clipsIn : Clips → (frame : List ℕ) (length : ℕ) → Splices → (next : ℕ) → Clipped

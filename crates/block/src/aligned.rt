@@ -51,7 +51,7 @@ fn clips_of(frame: &[u8], class: u32, length: u32, splices: Splices, c: Cursor) 
     ensures { λ r. ⌜ r ≡ clipsBy class (now (frame .entry)) length splices (c .at) ⌝ }
 {
     if class < Unit::I {
-        return Clipped::Whole(Clips::none(), c);
+        return Clipped::Whole(c, Clips::none());
     }
     read_clips(frame, length, splices, c)
 }
@@ -70,7 +70,7 @@ fn from_clips(
 {
     match clips_of(frame, class, length, splices, c) {
         Clipped::Refused(n) => AlignedRead::Refused(n),
-        Clipped::Whole(clips, next) => from_soft(
+        Clipped::Whole(next, clips) => from_soft(
             frame,
             class,
             alphabet,

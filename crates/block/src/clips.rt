@@ -8,9 +8,9 @@ ghost use mathlib.Core.Path.{_≡_};
 ghost use Prim.Native.Nat.{_≤_};
 ghost use Rattle.block.specs.Clips.{clipsAt, clipsIn, clipsInRead, clipsInPieces};
 
-// The clips and the place behind them, or the refusal's number.
+// The place behind the clips, and the clips; or the refusal's number. (The wider field first: the compiler then keeps them out of memory, docs/BENCHMARK.md.)
 pub enum Clipped {
-    Whole(Clips, Cursor),
+    Whole(Cursor, Clips),
     Refused(u32),
 }
 
@@ -55,7 +55,7 @@ fn within_read(clips: Clips, length: u32, next: Cursor) -> Clipped
     if length <= clips.soft() {
         return Clipped::Refused(refusal::CLIPS_OUT);
     }
-    Clipped::Whole(clips, next)
+    Clipped::Whole(next, clips)
 }
 
 // A read over introns: the left soft clip does not reach the first piece's length, nor the right one the last's.
@@ -71,5 +71,5 @@ fn within_pieces(frame: &[u8], clips: Clips, splices: Splices, next: Cursor) -> 
     if length_at(frame, last) <= clips.right_soft as u32 {
         return Clipped::Refused(refusal::CLIPS_OUT);
     }
-    Clipped::Whole(clips, next)
+    Clipped::Whole(next, clips)
 }

@@ -6,13 +6,15 @@ use crate::checked::read_number;
 use crate::checked::read_rcomp;
 use frame::field::Cursor;
 use splices::Splices;
+use splices::take::SymbolsMoved;
 use splices::take::take_pieces;
 use state::State;
 use unit::Unit;
 ghost use mathlib.Core.Path.{_≡_};
 ghost use mathlib.Core.List.{List};
-ghost use Prim.Native.Nat.{ℕ, _≤_};
+ghost use Prim.Native.Nat.{ℕ, _-_, _≤_};
 ghost use Rattle.limits.specs.Limits.{mostPieces};
+ghost use Rattle.splices.specs.code.Taken.{symbolsMoved, spliceTurns};
 ghost use Rattle.taking.specs.Steps.{stopped, came, decode};
 ghost use Rattle.block.specs.Head.{headAt, fromRcomp, fromPieces, fromLengths, spliceSteps, headMoved};
 
@@ -141,6 +143,7 @@ fn from_pieces(
     }
 }
 
+// The lengths of the pieces, and the symbols that so many pieces take: what is wrong with the lengths is told first.
 fn from_lengths(
     frame: &[u8],
     symbols: &[u32],
@@ -155,25 +158,19 @@ fn from_lengths(
     ensures { λ r. ⌜ ((position : ℕ) → r ≡ headMoved state (decode (now (symbols .entry)) (now (counts .entry)) state (fromLengths (now (frame .entry)) position length rcomp count (c .at)))) ⌝ }
 {
     let lengths_at = c.at;
-    match read_lengths(frame, length, count, c) {
-        CheckedField::Refused(n) => refused(n, state),
-        CheckedField::Value(_, next) => take_symbols(
-            symbols,
-            counts,
-            state,
-            length,
-            rcomp,
-            count,
-            lengths_at,
-            next,
-        ),
+    let lengths = read_lengths(frame, length, count, c);
+    let moved = take_pieces(symbols, counts, state, count - 1);
+    match lengths {
+        CheckedField::Refused(unfit) => refused(unfit, state),
+        CheckedField::Value(_, next) => {
+            with_symbols(moved, state, length, rcomp, count, lengths_at, next)
+        }
     }
 }
 
-// The symbols of the pieces behind the first, and where they stand.
-fn take_symbols(
-    symbols: &[u32],
-    counts: &[u32],
+// The head, behind the symbols of the pieces behind the first, with where these stand.
+fn with_symbols(
+    moved: SymbolsMoved,
     state: State,
     length: u32,
     rcomp: u32,
@@ -181,18 +178,16 @@ fn take_symbols(
     lengths_at: usize,
     next: Cursor,
 ) -> HeadMoved
-    requires { ⌜ 1 ≤ count ⌝ }
-    ensures { λ r. ⌜ ((frame : List ℕ) (position : ℕ) → r ≡ headMoved state (decode (now (symbols .entry)) (now (counts .entry)) state (spliceSteps frame position length rcomp count «lengths_at» next))) ⌝ }
+    ensures { λ r. ⌜ ((symbols : List ℕ) (counts : List ℕ) (frame : List ℕ) (position : ℕ) → moved ≡ symbolsMoved state (decode symbols counts state (spliceTurns (count - 1))) → r ≡ headMoved state (decode symbols counts state (spliceSteps frame position length rcomp count «lengths_at» next))) ⌝ }
 {
-    let moved = take_pieces(symbols, counts, state, count - 1);
     let n = moved.refusal;
     if n != refusal::FINE {
         return refused(n, state);
     }
     let index = state.index;
     let splices = Splices {
-        count,
         lengths_at,
+        count,
         codes: index[0],
         deltas: index[1],
         places: index[3],

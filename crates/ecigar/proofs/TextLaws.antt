@@ -1,18 +1,21 @@
 -- The laws of writing a segment's text: each turn of the loop.
 -- Assumes nothing.
-use mathlib.Core.Path.{_≡_}
+use mathlib.Core.Path.{_≡_, refl}
+use mathlib.Core.Bool.{false}
 use mathlib.Core.List.{List, _++_}
-use Prim.Native.Nat.{ℕ, _+_, _-_, _*_, _<_, _≤_}
+use Prim.Native.Nat.{ℕ, zero, suc, _+_, _-_, _*_, _<_, _≤_}
 use native.Mathlib.Omega.{arith}
 use lib.ListN.{length, length-append}
 use Rattle.writing.proofs.LayLaws.{Rest, rest-start, rest-put, rest-room}
 use Rattle.writing.specs.Lay.{Laid}
 use Rattle.alphabet.specs.Table35.{sizeOf}
 use Rattle.edits.specs.Edits.{widthOf, editAt, editsAt, Sound, blockEdits}
+use Rattle.unit.specs.Unit.{classI}
+use Rattle.edits.specs.code.Runs.{substitutesOnly}
 use Rattle.edits.specs.Lengths.{mappedLength}
 use Rattle.edits.specs.declared.edit.Edit.{Edit}
 use Rattle.edits.specs.declared.Block.{Block}
-use Rattle.edits.proofs.EditLaws.{edits-none, list-on, framed-on, accepted-on, sound-on}
+use Rattle.edits.proofs.EditLaws.{edit-full, width-full, edits-none, list-on, framed-on, accepted-on, sound-on}
 use Rattle.ecigar.specs.declared.walk.Walk.{Walk}
 use Rattle.ecigar.specs.Table90.{printAll}
 use Rattle.ecigar.specs.Ecigar.{setOutAt, past, gap, mark, ending, operationsFrom, operationsOf, ecigarOf, clipsLength, leftClip, rightClip, blockOperations, ecigarText}
@@ -21,6 +24,18 @@ use Rattle.ecigar.specs.declared.check.EditsChecked.the-variants.{Fine}
 use Rattle.ecigar.proofs.PrintLaws.{printed-append}
 use Rattle.ecigar.proofs.CheckLaws.{checked-fine}
 use Rattle.ecigar.proofs.WalkLaws.{text-on, text-end, past-next}
+
+-- ---- the classes whose edits have a type: they have one form
+
+pub typed-i : substitutesOnly classI ≡ false
+unfolding substitutesOnly
+typed-i = refl
+
+pub edits-typed : (class : ℕ) → substitutesOnly class ≡ false → (alphabet : ℕ) (frame : List ℕ) (k at : ℕ) → editsAt classI alphabet frame k at ≡ editsAt class alphabet frame k at
+unfolding editsAt
+edits-typed class t alphabet frame zero at = refl
+edits-typed class t alphabet frame (suc k) at =
+    rw (edit-full classI typed-i alphabet frame at, edit-full class t alphabet frame at, width-full classI typed-i, width-full class t, edits-typed class t alphabet frame k (at + 4)) refl
 
 -- ---- a turn of the loop
 

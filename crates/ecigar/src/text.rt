@@ -12,10 +12,11 @@ use edits::edit::substitutes;
 use edits::edit::substitution_at;
 use edits::edit::width;
 use edits::run_of;
+use unit::Unit;
 use writing::decimal::put_decimal;
 use writing::lay::put_byte;
 ghost use mathlib.Core.Path.{_≡_};
-ghost use mathlib.Core.Bool.{true};
+ghost use mathlib.Core.Bool.{true, false};
 ghost use mathlib.Core.List.{_++_};
 ghost use Prim.Native.Nat.{_+_, _-_, _*_, _<_, _≤_};
 ghost use lib.ListN.{length};
@@ -115,8 +116,8 @@ fn put_ending(out: &mut [u8], at: usize, w: Walk, mapped: u32) -> usize
     put_matches(out, next, mapped - w.next)
 }
 
-// The text of a piece that `check_piece` accepted, without clips: its first base stands at offset `start` of the read, and behind its last is `run.mapped`.
-pub fn write_piece(
+// The edits of a piece, each with what stands before it, and the match behind the last. It is called from one place, with one class, and the compiler sees which form the edits have (docs/BENCHMARK.md).
+fn put_edits(
     out: &mut [u8],
     at: usize,
     frame: &[u8],
@@ -144,6 +145,26 @@ pub fn write_piece(
         left -= 1;
     }
     put_ending(out, next, w, run.mapped)
+}
+
+// The text of a piece that `check_piece` accepted, without clips: its first base stands at offset `start` of the read, and behind its last is `run.mapped`.
+// Its class is one whose edits have a type, and these have one form.
+pub fn write_piece(
+    out: &mut [u8],
+    at: usize,
+    frame: &[u8],
+    class: u32,
+    alphabet: u32,
+    start: u32,
+    run: Run,
+) -> usize
+    requires { ⌜ substitutesOnly class ≡ false ⌝ }
+    requires { ⌜ (start ≤ run .mapped) × ((run .edits ≤ mostEdits) × (run .«edits_at» + run .edits * widthOf class ≤ length (now frame))) ⌝ }
+    requires { ⌜ Sound (run .mapped) (sizeOf alphabet) start (editsAt class alphabet (now frame) (run .edits) (run .«edits_at»)) ⌝ }
+    requires { ⌜ at + 2 * length (printAll (operationsFrom alphabet (run .mapped) (setOutAt start) (editsAt class alphabet (now frame) (run .edits) (run .«edits_at»)))) ≤ length (now out) ⌝ }
+    ensures { λ r. ⌜ Laid (now (out .entry)) (now (out .exit)) at r (printAll (operationsFrom alphabet (run .mapped) (setOutAt start) (editsAt class alphabet (now (frame .entry)) (run .edits) (run .«edits_at»)))) ⌝ }
+{
+    put_edits(out, at, frame, Unit::I, alphabet, start, run)
 }
 
 // The same where every edit is a substitution: a match and a letter, and so on.

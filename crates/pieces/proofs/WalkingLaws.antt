@@ -72,6 +72,7 @@ module _ (class alphabet : ℕ) (frame symbols : List ℕ) (mapped : ℕ) (w : P
   pub walking-ready : ReadyPiece class alphabet frame w
   walking-ready =
       record {
+        typed = g .typed;
         few = omega (arith, g .few);
         short = omega (arith, until-within, g .short);
         framed = omega (arith, g .framed, add-mul (w .edits) (w .behind) (widthOf class));
@@ -96,6 +97,7 @@ module _ (class alphabet : ℕ) (frame symbols : List ℕ) (mapped : ℕ) (w : P
     walking-on room =
         let k = next-kept class alphabet frame symbols mapped w (g .cut) h in
         record {
+          typed = g .typed;
           cut = next-cut class alphabet frame symbols mapped w (g .cut) h until-within;
           many = omega (arith, g .many, k .left-is);
           short = g .short;

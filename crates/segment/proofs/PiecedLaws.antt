@@ -1,6 +1,7 @@
 -- The laws of a read whose block was accepted: its pieces can be walked over, and its text is Table 94's.
 -- Assumes nothing.
 use Prim.Native.Nat.{ℕ, zero, suc, _+_, _-_, _*_, _^_, _<_, _≤_}
+use mathlib.Core.Bool.{false}
 use mathlib.Core.Path.{_≡_, refl, sym, ap, subst, _∙_}
 use mathlib.Core.List.{List, [], _∷_}
 use native.Mathlib.Omega.{arith}
@@ -15,6 +16,7 @@ use Rattle.alphabet.specs.Table35.{sizeOf}
 use Rattle.state.specs.Listed.{wordsAt}
 use Rattle.state.proofs.HeadLaws.{length-wordsAt}
 use Rattle.edits.specs.Edits.{blockEdits}
+use Rattle.edits.specs.code.Runs.{substitutesOnly}
 use Rattle.edits.specs.Lengths.{mappedLength}
 use Rattle.edits.specs.Pieces.{SignedPosition, Piece, piecesFrom, lessFirst, EachPiece, nil, cons, Spans, sumOf, lastLength}
 use Rattle.edits.specs.declared.Block.{Block}
@@ -112,6 +114,14 @@ module _ (class alphabet : ℕ) (frame symbols : List ℕ) (b : Block) (s : Spli
 
   -- ---- they can be walked over
 
+  -- only I and HM have several
+  several-typed : 2 ≤ s .count → substitutesOnly class ≡ false
+  unfolding substitutesOnly
+  several-typed two =
+      by-test (ltb class classI)
+      (λ t. absurd (omega (arith, two, in-one (ltb-true class classI t))))
+      (λ t. let i = ltb-false class classI t in simp (ne-eqb class classN (λ e. omega (arith, i, e)), ne-eqb class classM (λ e. omega (arith, i, e))))
+
   pub walk-begun : (position : ℕ) → 2 ≤ s .count → position < 2 ^ 33 → NarrowSplices s → WalkBegun class alphabet frame symbols b s position
   walk-begun position two near fits =
       let k = begin-kept class alphabet frame symbols b s position in
@@ -121,6 +131,7 @@ module _ (class alphabet : ℕ) (frame symbols : List ℕ) (b : Block) (s : Spli
         least = g .least;
         walking =
             record {
+              typed = several-typed two;
               cut = first-cut class alphabet frame symbols b s position (g .least);
               many = omega (arith, g .most, k .left-is);
               short = omega (arith, g .short);

@@ -17,7 +17,7 @@ use Rattle.block.specs.declared.clips.Clipped.the-variants.{Whole}
 
 -- the clips of a block, by its class
 unfoldable pub clipsBy : (class : ℕ) (frame : List ℕ) (length : ℕ) → Splices → (at : ℕ) → Clipped
-clipsBy class frame length splices at = cond (ltb class classI) (Whole noClips (record { at = at })) (clipsAt frame length splices at)
+clipsBy class frame length splices at = cond (ltb class classI) (Whole (record { at = at }) noClips) (clipsAt frame length splices at)
 
 -- how many edits it has, and where they stand
 unfoldable pub editCount : (class : ℕ) (frame : List ℕ) (at : ℕ) → CheckedField

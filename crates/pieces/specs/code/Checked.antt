@@ -12,6 +12,7 @@ use Rattle.unit.specs.declared.Unit.{Unit}
 use Rattle.alphabet.specs.Table35.{sizeOf}
 use Rattle.limits.specs.Limits.{mostRead, mostEdits, mostPieces}
 use Rattle.edits.specs.Edits.{widthOf}
+use Rattle.edits.specs.code.Runs.{substitutesOnly}
 use Rattle.edits.specs.Lengths.{mappedLength}
 use Rattle.edits.specs.Pieces.{Piece, belowZero, beginsAt, splicedSegMappedLength, endOf, EachPiece, Spans}
 use Rattle.edits.specs.declared.Block.{Block}
@@ -73,8 +74,9 @@ piecesFound u reference text least ps =
 
 -- ---- what the code asks for
 
--- a piece that stands in the frame, whose edits are accepted
+-- a piece that stands in the frame, whose edits have a type and are accepted
 pub record ReadyPiece (class alphabet : ℕ) (frame : List ℕ) (w : PieceWalk) : Type 0 where
+  pub typed : substitutesOnly class ≡ false
   pub few : w .edits ≤ mostEdits
   pub short : w .until ≤ mostRead
   pub framed : w .«edits_at» + w .edits * widthOf class ≤ length frame
@@ -89,8 +91,9 @@ pub record Looked (alphabet : ℕ) (p : Piece) (least position taken text : ℕ)
   pub long : text ≡ length (printAll (pieceOperations alphabet p))
   pub most : text ≤ 2 * mostRead + 2 * mostEdits
 
--- the pieces from one on, up to the end of the mapped bases: they stand in the frame, and their edits are accepted
+-- the pieces from one on, up to the end of the mapped bases: they stand in the frame, and their edits have a type and are accepted
 pub record Walking (class alphabet : ℕ) (frame symbols : List ℕ) (mapped : ℕ) (w : PieceWalk) : Type 0 where
+  pub typed : substitutesOnly class ≡ false
   pub cut : CutPiece class frame mapped w
   pub many : w .left ≤ mostPieces
   pub short : mapped ≤ mostRead

@@ -11,8 +11,8 @@ clips-of-requires c κs = search needs
 enum-known-n : tie.Need-enum-known-n
 enum-known-n c = search needs
 
-enum-known-clips : tie.Need-enum-known-clips
-enum-known-clips c = search needs
+enum-known-next : tie.Need-enum-known-next
+enum-known-next c = search needs
 
 from-soft-requires : tie.Need-from-soft-requires
 from-soft-requires c κs = search needs
@@ -29,7 +29,7 @@ from-clips-spec =
     (tie.spec
     clips-of-requires
     enum-known-n
-    enum-known-clips
+    enum-known-next
     from-soft-requires
     returns
     returns-2)

@@ -31,7 +31,7 @@ returns-2 c = c .before .before .put-substitutions .ensures
 
 write-piece-requires : tie.Need-write-piece-requires
 unfolding ecigarOf
-write-piece-requires c κs = let s = c .before .before .before .before .before .before .before in ((omega arith, s .pre .0), s .pre .1)
+write-piece-requires c κs = let s = c .before .before .before .before .before .before .before in (sym (c .before .before .substitutes .ensures) ∙ c .before .if2 .left, ((omega arith, s .pre .0), s .pre .1))
 
 same-length-3 : tie.Need-same-length-3
 same-length-3 c = search needs

@@ -12,7 +12,7 @@ run-here-requires : tie.Need-run-here-requires
 run-here-requires c κs = search needs
 
 write-piece-requires : tie.Need-write-piece-requires
-write-piece-requires c κs = let g = c .before .before .before .before .before .pre .0 in rw (c .before .before .run-here .ensures) ((omega (arith, g .sound .base), (g .few, g .framed)), (g .sound .sound, alone-room _ _ _ _ _ _ (c .before .if1 .taken) (c .before .before .before .before .before .pre .1 .1)))
+write-piece-requires c κs = let g = c .before .before .before .before .before .pre .0 in rw (c .before .before .run-here .ensures) (g .typed, ((omega (arith, g .sound .base), (g .few, g .framed)), (g .sound .sound, alone-room _ _ _ _ _ _ (c .before .if1 .taken) (c .before .before .before .before .before .pre .1 .1))))
 
 same-length : tie.Need-same-length
 same-length c = search needs
@@ -36,7 +36,7 @@ put-splice-requires : tie.Need-put-splice-requires
 put-splice-requires c κs = splice-room _ _ _ _ _ _ (c .before .before .before .if1 .left) (c .before .before .before .before .before .before .before .pre .1 .1)
 
 write-piece-requires-2 : tie.Need-write-piece-requires-2
-write-piece-requires-2 c κs = let g = c .before .before .before .before .before .before .before .before .before .before .before .pre .0 in rw (c .before .before .before .before .before .before .before .before .run-here .ensures) ((omega (arith, g .sound .base), (g .few, g .framed)), (g .sound .sound, room-next _ (c .before .before .before .put-splice .ensures) (rw (with-splice _ _ _ _ (c .before .before .before .before .before .before .before .if1 .left)) at (c .before .before .before .before .before .before .before .before .before .before .before .pre .1 .1))))
+write-piece-requires-2 c κs = let g = c .before .before .before .before .before .before .before .before .before .before .before .pre .0 in rw (c .before .before .before .before .before .before .before .before .run-here .ensures) (g .typed, ((omega (arith, g .sound .base), (g .few, g .framed)), (g .sound .sound, room-next _ (c .before .before .before .put-splice .ensures) (rw (with-splice _ _ _ _ (c .before .before .before .before .before .before .before .if1 .left)) at (c .before .before .before .before .before .before .before .before .before .before .before .pre .1 .1)))))
 
 same-length-2 : tie.Need-same-length-2
 same-length-2 c = search needs

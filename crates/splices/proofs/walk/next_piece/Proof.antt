@@ -1,8 +1,11 @@
 -- `splices::walk::next_piece` meets its contract: the edits behind the piece, from where it ends on. Assumes nothing.
-use mathlib.Core.Path.{_≡_, sym, ap, _∙_}
+use Prim.Native.Nat.{ℕ}
+use denote.Ref.{now}
+use mathlib.Core.Path.{_≡_, ap, _∙_}
 use native.Mathlib.Omega.{arith}
 use native.Mathlib.Nat.{add-mul}
 use Rattle.edits.specs.Edits.{widthOf}
+use Rattle.splices.specs.code.Mapping.{following}
 use Rattle.splices.specs.code.Walk.{nextPiece}
 use Rattle.splices.proofs.WalkLaws.{cut-mapping}
 use borrow.Author.Needs.{needs}
@@ -44,7 +47,12 @@ cut-piece-requires c κs = rw (c .before .before .before .before .width .ensures
 
 returns : tie.Need-returns
 unfolding nextPiece
-returns c = let m = rw (c .before .before .before .before .before .before .before .before .length-at .ensures .0) at (c .before .before .before .before .before .before .before .following-piece .ensures .0) in (rw (c .before .before .before .before .before .width .ensures, c .before .before .before .length-at2 .ensures .0, m) at (c .cut-piece .ensures), λ left h. rw (c .cut-piece .ensures, cut-mapping) (c .before .before .before .before .before .before .before .following-piece .ensures .1 left (omega (arith, c .before .before .before .before .before .before .before .before .length-at .ensures .1)) h))
+returns c =
+    let s = c .before .before .before .before .before .before .before .before .before .before .before .before in
+    let at-length = c .before .before .before .before .before .before .before .before .length-at .ensures in
+    let follows = c .before .before .before .before .before .before .before .following-piece .ensures in
+    let m = follows .0 ∙ ap (λ (n : ℕ). following (now (s .args .symbols)) (s .args .w .mapping) n) (at-length .0) in
+    (rw (c .before .before .before .before .before .width .ensures, c .before .before .before .length-at2 .ensures .0, m) at (c .cut-piece .ensures), λ left h. rw (c .cut-piece .ensures, cut-mapping) (follows .1 left (omega (arith, at-length .1)) h))
 
 pub next-piece-spec : {M : Type 1} → statement M
 next-piece-spec =
