@@ -45,6 +45,11 @@ later mapped symbols next start e z h =
     (λ b. by-test (leb symbols (e .symbol)) (λ d. let y = simp (a, b, d) at z in absurd (omega arith))
     (λ d. let y = simp (a, b, d, le-ltb (e .offset) next (o .order)) at z in simp (a, b, d, le-ltb (e .offset) start h) y)))
 
+-- a list of edits is accepted from its first offset on
+pub sound-later : (mapped symbols next : ℕ) (e : Edit) (es : List Edit) → Sound mapped symbols next (e ∷ es) → Sound mapped symbols (e .offset) (e ∷ es)
+unfolding Sound
+sound-later mapped symbols next e es s = (later mapped symbols next (e .offset) e (s .0) (omega arith), s .1)
+
 -- ---- the edits of a piece, and those behind it
 
 module _ (mapped symbols until : ℕ) where

@@ -104,6 +104,17 @@ pub data EachPiece (P : Piece → Type 0) : List Piece → Type 0 where
   nil : EachPiece P []
   cons : (p : Piece) {ps : List Piece} → P p → EachPiece P ps → EachPiece P (p ∷ ps)
 
+-- the first of some pieces
+abbrev pub OfFirst : (Piece → Type 0) → List Piece → Type 0
+OfFirst P [] = Unit
+OfFirst P (p ∷ ps) = P p
+
+-- the last of them
+abbrev pub OfLast : (Piece → Type 0) → List Piece → Type 0
+OfLast P [] = Unit
+OfLast P (p ∷ []) = P p
+OfLast P (p ∷ q ∷ ps) = OfLast P (q ∷ ps)
+
 -- pieces that follow each other without a gap, from one place of the mapped bases to another
 unfoldable pub Spans : (from : ℕ) → List Piece → (to : ℕ) → Type 0
 Spans from [] to = from ≡ to

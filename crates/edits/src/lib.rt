@@ -1,5 +1,6 @@
 // What a block of a record holds: a segment's length, clips and edits, and where they stand in the frame.
 pub mod edit;
+pub mod flank;
 pub mod piece;
 
 use limits::Limit;
