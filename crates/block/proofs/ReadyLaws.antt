@@ -1,6 +1,7 @@
 -- What the check of a segment leaves: every segment that was accepted is ready to be written.
 -- Assumes nothing.
 use mathlib.Core.Path.{_≡_, refl, sym, ap}
+use mathlib.Core.Bool.{true}
 use mathlib.Core.List.{List}
 use Prim.Native.Nat.{ℕ, zero, suc, _+_, _*_, _<_, _≤_}
 use native.Mathlib.Omega.{arith}
@@ -24,6 +25,7 @@ use Rattle.edits.specs.declared.Clips.{Clips}
 use Rattle.edits.specs.declared.Block.{Block}
 use Rattle.edits.specs.Lengths.{mostRead, mostEdits, noClips, softBases, mappedLength}
 use Rattle.edits.specs.Edits.{widthOf, Sound, takenFrom, blockEdits}
+use Rattle.edits.specs.Flanks.{allFlanked}
 use Rattle.edits.specs.Pieces.{straight, sumOf, lastLength}
 use Rattle.edits.proofs.PieceLaws.{NoneZero}
 use Rattle.splices.specs.Table62.{splicedSegMappingPos}
@@ -228,6 +230,7 @@ pub record ReadyBlock (class alphabet : ℕ) (frame : List ℕ) (a : AlignedBloc
   pub few : a .block .edits ≤ mostEdits
   pub framed : a .block .«edits_at» + a .block .edits * widthOf class ≤ length frame
   pub sound : Sound (mappedLength (a .block .length) (a .block .clips)) (sizeOf alphabet) 0 (blockEdits class alphabet frame (a .block))
+  pub flanks : allFlanked (mappedLength (a .block .length) (a .block .clips)) (blockEdits class alphabet frame (a .block)) ≡ true
   pub taken : a .taken ≡ takenFrom (mappedLength (a .block .length) (a .block .clips)) 0 (blockEdits class alphabet frame (a .block))
   pub text : a .text ≡ length (ecigarText class alphabet frame (a .block))
   pub inside : a .next .at ≤ length frame
@@ -268,6 +271,7 @@ tallied-ready class alphabet frame s x a q sides rcomp pieces plain inside =
           few = f .few;
           framed = f .framed inside;
           sound = f .sound;
+          flanks = f .flanks;
           taken = f .taken;
           text = sym (checked-length class alphabet frame s taken text e);
           inside = f .framed inside;

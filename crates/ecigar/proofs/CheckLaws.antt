@@ -1,7 +1,7 @@
 -- The laws of the check: each turn of its loop, the bounds that hold on the way, and what an accepted list of edits meets.
 -- Assumes nothing.
-use mathlib.Core.Path.{_≡_, refl, ap, _∙_}
-use mathlib.Core.Bool.{true, false, cond}
+use mathlib.Core.Path.{_≡_, refl, sym, ap, _∙_}
+use mathlib.Core.Bool.{Bool, true, false, cond}
 use mathlib.Core.Logic.{inr}
 use mathlib.Core.List.{List, _∷_, _++_}
 use Prim.Native.Nat.{ℕ, zero, suc, _+_, _-_, _*_, _<_, _≤_}
@@ -10,13 +10,19 @@ use native.Mathlib.Nat.{suc-mul, zero-mul, zero-add, add-zero}
 use borrow.Author.Tests.{le-ltb, ltb-true, ltb-false, eq-eqb, ne-eqb, eqb-true, eqb-false}
 use lib.Dec.{ltb, eqb}
 use lib.ListN.{length, length-append}
-use Rattle.refusal.specs.Numbers.{fine, misframed}
+use Rattle.refusal.specs.Numbers.{fine, misframed, offsetOut}
 use Rattle.frame.proofs.Tests.{by-test}
 use Rattle.alphabet.specs.Table35.{sizeOf}
 use Rattle.edits.specs.Edits.{substitution, insertion, widthOf, editAt, editsAt, nextOffset, editRefusal, Sound, takenFrom, takenBy}
+use Rattle.edits.specs.Flanks.{flanked, allFlanked}
+use Rattle.edits.specs.code.Flank.{flankPast, flankEnd, flankedFrom}
+use Rattle.edits.specs.code.Runs.{substitutesOnly}
 use Rattle.edits.specs.Lengths.{mostRead, mostEdits}
 use Rattle.edits.specs.declared.edit.Edit.{Edit}
+use Rattle.edits.specs.declared.flank.Flank.{Flank}
+use Rattle.edits.specs.declared.flank.Flank.the-variants.{Before}
 use Rattle.edits.proofs.EditLaws.{EditAccepted, edits-on, edits-none, next-least}
+use Rattle.edits.proofs.FlankLaws.{each-letters, flank-start, flank-on, flank-end}
 use Rattle.ecigar.specs.declared.walk.Walk.{Walk}
 use Rattle.ecigar.specs.declared.check.Tally.{Tally}
 use Rattle.ecigar.specs.declared.check.EditsChecked.{EditsChecked}
@@ -24,7 +30,7 @@ use Rattle.ecigar.specs.declared.check.EditsChecked.the-variants.{Fine, 
 use Rattle.ecigar.specs.Table90.{printAll}
 use Rattle.ecigar.specs.Ecigar.{setOutAt, past, gap, mark, operationsFrom, ecigarOf}
 use Rattle.ecigar.specs.Check.{endsWithin, editsRefusal, answered, pieceChecked, editsChecked, checkOf, checkPiece}
-use Rattle.ecigar.specs.code.Tally.{startTallyAt, textBy, tallied, afterLast}
+use Rattle.ecigar.specs.code.Tally.{startTallyAt, textBy, tallied, afterLast, afterRead}
 use Rattle.ecigar.proofs.PrintLaws.{length-printed}
 use Rattle.ecigar.proofs.WalkLaws.{Open, length-mark, text-on, text-end, past-next, past-run, past-open, edit-most}
 
@@ -94,6 +100,69 @@ unfolding checkedFrom answered editsRefusal takenFrom afterLast
 check-end class alphabet frame mapped k at t h =
     let z : k ≡ 0 = omega arith in rw (edits-none class alphabet frame k at h, z, text-end alphabet mapped (t .walk))
 
+-- ---- a whole read, whose deletions are looked at together
+
+module _ (class alphabet : ℕ) (frame : List ℕ) (start count mapped : ℕ) where
+  abbrev all : List Edit
+  all = editsAt class alphabet frame count start
+
+  -- what was kept of them so far comes to what all of them come to, where the edits that are left are accepted
+  abbrev pub Flanking : (k at : ℕ) → Tally → Flank → Type 0
+  Flanking k at t f =
+      Sound mapped (sizeOf alphabet) (t .walk .next) (editsAt class alphabet frame k at)
+      → flankedFrom f mapped (t .walk .next) (editsAt class alphabet frame k at) ≡ allFlanked mapped all
+
+  pub flanking-start : (t : Tally) → t ≡ startTallyAt 0 → Flanking count start t Before
+  flanking-start t q s = rw q (flank-start mapped all)
+
+  pub flanking-on : (k at step : ℕ) (t r : Tally) (f g : Flank) (e : Edit) → step ≡ widthOf class → 0 < k → e ≡ editAt class alphabet frame at
+      → editRefusal mapped (sizeOf alphabet) (t .walk .next) e ≡ fine → r ≡ tallied t e → g ≡ flankPast f (t .walk .next) e
+      → Flanking k at t f → Flanking (k - 1) (at + step) r g
+  unfolding tallied Sound
+  flanking-on k at step t r f g e wide more it z q p h s =
+      let es = editsAt class alphabet frame (k - 1) (at + step) in
+      let next : r .walk .next ≡ nextOffset e = past-next (t .walk) e (ap (λ (x : Tally). x .walk) q) in
+      let list : editsAt class alphabet frame k at ≡ e ∷ es = edits-on class alphabet frame k at e it more ∙ rw wide in
+      let sound : Sound mapped (sizeOf alphabet) (t .walk .next) (e ∷ es) = (z, rw next at s) in
+      rw (next, p) (sym (flank-on mapped (sizeOf alphabet) e es f (t .walk .next) sound) ∙ rw list at h sound)
+
+  -- an edit's own refusal is the read's
+  pub read-refused : (n : ℕ) → pieceChecked class alphabet frame 0 start count mapped ≡ Refused n → editsChecked class alphabet frame start count mapped ≡ Refused n
+  unfolding editsChecked answered
+  read-refused n q =
+      by-test (eqb (editsRefusal class alphabet frame mapped 0 count start) fine)
+      (λ d. let z = simp d at q in absurd (let y : _≡_ {A = ℕ} 0 1 = cc in omega arith))
+      (λ d. simp d (simp d at q))
+
+  -- where none is refused, and each deletion is flanked, the read comes to what its edits come to
+  read-flanked : allFlanked mapped all ≡ true → editsChecked class alphabet frame start count mapped ≡ pieceChecked class alphabet frame 0 start count mapped
+  unfolding editsChecked answered
+  read-flanked h =
+      by-test (eqb (editsRefusal class alphabet frame mapped 0 count start) fine) (λ d. simp (d, h)) (λ d. simp (d, h))
+
+  -- else it is refused
+  read-bare : (taken text : ℕ) → pieceChecked class alphabet frame 0 start count mapped ≡ Fine taken text → allFlanked mapped all ≡ false
+      → editsChecked class alphabet frame start count mapped ≡ Refused offsetOut
+  unfolding editsChecked answered
+  read-bare taken text q h =
+      by-test (eqb (editsRefusal class alphabet frame mapped 0 count start) fine) (λ d. simp (d, h))
+      (λ d. let z = simp d at q in absurd (let y : _≡_ {A = ℕ} 0 1 = cc in omega arith))
+
+  -- in N and M there is no deletion
+  pub read-letters : substitutesOnly class ≡ true → editsChecked class alphabet frame start count mapped ≡ pieceChecked class alphabet frame 0 start count mapped
+  read-letters only = read-flanked (each-letters (flanked mapped all) class alphabet frame count start only)
+
+  pub read-end : (k at : ℕ) (t : Tally) (f : Flank) → k ≤ 0 → checkedFrom class alphabet frame mapped k at t ≡ pieceChecked class alphabet frame 0 start count mapped → Flanking k at t f
+      → afterRead mapped f t ≡ editsChecked class alphabet frame start count mapped
+  unfolding afterRead afterLast Sound
+  read-end k at t f none q h =
+      let here = sym (check-end class alphabet frame mapped k at t none) ∙ q in
+      let e : flankEnd f (t .walk .next) mapped ≡ cond (allFlanked mapped all) fine offsetOut =
+      flank-end f (t .walk .next) mapped ∙ ap (λ (b : Bool). cond b fine offsetOut) (rw (edits-none class alphabet frame k at none) at h tt) in
+      by-test (allFlanked mapped all)
+      (λ b. rw (e, b) (here ∙ sym (read-flanked b)))
+      (λ b. rw (e, b) (sym (read-bare _ _ (sym here) b)))
+
 -- ---- the bounds on the way
 
 -- where a tally stands when k of n edits are left
@@ -150,6 +219,7 @@ pub record IsFine (class alphabet : ℕ) (frame : List ℕ) (at count mapped pos
   pub begun : 0 < count → at ≤ length frame
   pub framed : at ≤ length frame → at + count * widthOf class ≤ length frame
   pub sound : Sound mapped (sizeOf alphabet) 0 (editsAt class alphabet frame count at)
+  pub flanks : allFlanked mapped (editsAt class alphabet frame count at) ≡ true
   pub taken : positions ≡ takenFrom mapped 0 (editsAt class alphabet frame count at)
   pub text : characters ≡ length (ecigarOf alphabet mapped (editsAt class alphabet frame count at))
 
@@ -160,10 +230,12 @@ checked-fine class alphabet frame at count mapped taken text q =
     by-test (ltb mostEdits count) (λ a. never (simp a at q))
     (λ a. by-test (ltb mostRead mapped) (λ b. never (simp (a, b) at q))
     (λ b. by-test (eqb (editsRefusal class alphabet frame mapped 0 count at) fine)
-    (λ d.
-    let p = simp (a, b, d) at q in
+    (λ d. by-test (allFlanked mapped (editsAt class alphabet frame count at))
+    (λ f.
+    let p = simp (a, b, d, f) at q in
     let s = refusal-fine class alphabet frame mapped 0 count at (eqb-true _ _ d) in
-    record { few = ltb-false _ _ a; short = ltb-false _ _ b; begun = begin class alphabet frame mapped 0 count at (eqb-true _ _ d); framed = s .1; sound = s .0; taken = cc; text = cc })
+    record { few = ltb-false _ _ a; short = ltb-false _ _ b; begun = begin class alphabet frame mapped 0 count at (eqb-true _ _ d); framed = s .1; sound = s .0; flanks = f; taken = cc; text = cc })
+    (λ f. never (simp (a, b, d, f) at q)))
     (λ d. never (simp (a, b, d) at q))))
   where
     never : {P : Type 0} {n : ℕ} → Refused n ≡ Fine taken text → P

@@ -9,5 +9,6 @@ pub mod OperationLaws
 pub mod RefusalLaws
 pub mod BytesLaws
 pub mod SplicedLaws
+pub mod ShortLaws
 pub mod Table94Laws
 pub mod Unique

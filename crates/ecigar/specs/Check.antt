@@ -8,10 +8,11 @@ use lib.ListN.{length}
 use Rattle.refusal.specs.Numbers.{fine, firstRefusal, misframed, lengthOut, fieldOut, offsetOut}
 use Rattle.alphabet.specs.Table35.{sizeOf}
 use Rattle.edits.specs.Edits.{widthOf, editAt, editsAt, nextOffset, editRefusal, takenFrom}
+use Rattle.edits.specs.Flanks.{flankRefusal}
 use Rattle.edits.specs.Lengths.{mostRead, mostEdits}
 use Rattle.edits.specs.declared.edit.Edit.{Edit}
 use Rattle.ecigar.specs.Table90.{printAll}
-use Rattle.ecigar.specs.Ecigar.{setOutAt, operationsFrom}
+use Rattle.ecigar.specs.Ecigar.{setOutAt, setOut, operationsFrom}
 use Rattle.ecigar.specs.declared.check.EditsChecked.{EditsChecked}
 use Rattle.ecigar.specs.declared.check.EditsChecked.the-variants.{Fine, Refused}
 
@@ -45,9 +46,13 @@ pieceChecked class alphabet frame from at count until =
     (takenFrom until from (editsAt class alphabet frame count at))
     (length (printAll (operationsFrom alphabet until (setOutAt from) (editsAt class alphabet frame count at))))
 
--- the same of a read that is in one piece
+-- the same of a whole read, whose deletions are looked at together behind the last edit: 12 where one has no match or substitution before it, or none behind it (document 02, Wish 2)
 unfoldable pub editsChecked : (class alphabet : ℕ) (frame : List ℕ) (at count mapped : ℕ) → EditsChecked
-editsChecked class alphabet frame at count mapped = pieceChecked class alphabet frame 0 at count mapped
+editsChecked class alphabet frame at count mapped =
+    answered
+    (firstRefusal (editsRefusal class alphabet frame mapped 0 count at) (flankRefusal mapped (editsAt class alphabet frame count at)))
+    (takenFrom mapped 0 (editsAt class alphabet frame count at))
+    (length (printAll (operationsFrom alphabet mapped setOut (editsAt class alphabet frame count at))))
 
 -- the whole check: the count of edits before the edits (11), and no read is longer than the longest (8).
 -- In a record neither is met here: the block's own fields are refused before (block's `countIn`, `lengthIn`)
@@ -57,7 +62,7 @@ checkOf class alphabet frame at count mapped =
     (cond (ltb mostRead mapped) (Refused lengthOut)
     (editsChecked class alphabet frame at count mapped))
 
--- the check of one piece of a read: the same two tests, and it ends no earlier than it begins (12). A piece of an accepted read meets all three: `piece-checked`
+-- the check of one piece of a read: the same two tests, and it ends no earlier than it begins (12). Whether its deletions are flanked is asked of the whole read alone. A piece of an accepted read meets all three: `piece-checked`
 unfoldable pub checkPiece : (class alphabet : ℕ) (frame : List ℕ) (from at count until : ℕ) → EditsChecked
 checkPiece class alphabet frame from at count until =
     cond (ltb mostEdits count) (Refused fieldOut)

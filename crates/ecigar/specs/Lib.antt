@@ -4,5 +4,6 @@ pub mod Spliced
 pub mod Table93
 pub mod Table92
 pub mod Table94
+pub mod Longest
 pub mod Check
 pub mod code

@@ -10,6 +10,7 @@ use edits::edit::refusal_of;
 use edits::edit::substitutes;
 use edits::edit::substitution_at;
 use edits::edit::width;
+use edits::flank::Flank;
 use writing::decimal::decimal_len;
 ghost use mathlib.Core.Path.{_≡_};
 ghost use mathlib.Core.Bool.{true};
@@ -22,7 +23,7 @@ ghost use Rattle.edits.specs.Lengths.{mostRead, mostEdits, mostEcigar};
 ghost use Rattle.ecigar.specs.Table90.{printAll};
 ghost use Rattle.ecigar.specs.Ecigar.{openRun, matches, gap};
 ghost use Rattle.ecigar.specs.Check.{endsWithin, pieceChecked, editsChecked, checkOf, checkPiece};
-ghost use Rattle.ecigar.specs.code.Tally.{startTallyAt, textBy, tallied, afterLast};
+ghost use Rattle.ecigar.specs.code.Tally.{startTallyAt, textBy, tallied, afterLast, afterRead};
 
 // What the check keeps from edit to edit: the walk, the reference positions taken, and the length of the text so far.
 pub struct Tally {
@@ -156,14 +157,28 @@ fn ends_within(frame: &[u8], at: usize, bytes: usize) -> bool
     false
 }
 
-// Each edit where it stands: complete, then accepted. The run's first base stands at offset `from`, and behind its last is `run.mapped`.
-fn check_edits(frame: &[u8], class: u32, alphabet: u32, from: u32, run: Run) -> EditsChecked
-    requires { ⌜ (run .edits ≤ mostEdits) × ((run .mapped ≤ mostRead) × (from ≤ run .mapped)) ⌝ }
-    ensures { λ r. ⌜ r ≡ pieceChecked class alphabet (now (frame .entry)) from (run .«edits_at») (run .edits) (run .mapped) ⌝ }
+// Behind the last edit of a whole read: each of its deletions is flanked, or 12.
+fn finish_read(t: Tally, flank: Flank, mapped: u32) -> EditsChecked
+    requires { ⌜ (t .walk .next ≤ mapped) × ((mapped ≤ mostRead) × ((t .taken ≤ mostRead + mostEdits) × (t .text ≤ mostEcigar))) ⌝ }
+    ensures { λ r. ⌜ r ≡ afterRead mapped flank t ⌝ }
+{
+    let w = t.walk;
+    let no = flank.refusal(w.next, mapped);
+    if no != refusal::FINE {
+        return EditsChecked::Refused(no);
+    }
+    finish(t, mapped)
+}
+
+// Each edit of a whole read where it stands: complete, then accepted; then all of them together.
+fn check_edits(frame: &[u8], class: u32, alphabet: u32, run: Run) -> EditsChecked
+    requires { ⌜ (run .edits ≤ mostEdits) × (run .mapped ≤ mostRead) ⌝ }
+    ensures { λ r. ⌜ r ≡ editsChecked class alphabet (now (frame .entry)) (run .«edits_at») (run .edits) (run .mapped) ⌝ }
 {
     let step = width(class);
     let symbols = alphabet::size(alphabet);
-    let mut t = Tally::start_at(from);
+    let mut t = Tally::start_at(0);
+    let mut flank = Flank::Before;
     let mut at = run.edits_at;
     let mut left = run.edits;
     while 0 < left {
@@ -176,14 +191,15 @@ fn check_edits(frame: &[u8], class: u32, alphabet: u32, from: u32, run: Run) -> 
         if no != refusal::FINE {
             return EditsChecked::Refused(no);
         }
+        flank = flank.past(w.next, e);
         t = take_edit(t, e);
         at += step;
         left -= 1;
     }
-    finish(t, run.mapped)
+    finish_read(t, flank, run.mapped)
 }
 
-// The same for a piece of a read: a walk of its own, so that the one above is called from one place (docs/BENCHMARK.md).
+// Each edit of a piece of a read. Its first base stands at offset `from`, and behind its last is `run.mapped`. Its deletions are not looked at together: that is the whole read's.
 fn check_piece_edits(frame: &[u8], class: u32, alphabet: u32, from: u32, run: Run) -> EditsChecked
     requires { ⌜ (run .edits ≤ mostEdits) × ((run .mapped ≤ mostRead) × (from ≤ run .mapped)) ⌝ }
     ensures { λ r. ⌜ r ≡ pieceChecked class alphabet (now (frame .entry)) from (run .«edits_at») (run .edits) (run .mapped) ⌝ }
@@ -210,10 +226,10 @@ fn check_piece_edits(frame: &[u8], class: u32, alphabet: u32, from: u32, run: Ru
     finish(t, run.mapped)
 }
 
-// The same where every edit is a substitution: no run is ever open, and each edit takes the reference position of its base.
+// The same of a whole read where every edit is a substitution: no run is ever open, each edit takes the reference position of its base, and there is no deletion.
 fn check_substitutions(frame: &[u8], class: u32, alphabet: u32, run: Run) -> EditsChecked
     requires { ⌜ (substitutesOnly class ≡ true) × (run .mapped ≤ mostRead) ⌝ }
-    ensures { λ r. ⌜ r ≡ editsChecked class alphabet (now (frame .entry)) (run .«edits_at») (run .edits) (run .mapped) ⌝ }
+    ensures { λ r. ⌜ r ≡ pieceChecked class alphabet (now (frame .entry)) 0 (run .«edits_at») (run .edits) (run .mapped) ⌝ }
 {
     let step = width(class);
     let symbols = alphabet::size(alphabet);
@@ -242,7 +258,7 @@ fn check_substitutions(frame: &[u8], class: u32, alphabet: u32, run: Run) -> Edi
     }
 }
 
-// The edits of a run, where they stand in the frame.
+// The edits of a whole read, where they stand in the frame.
 pub fn check(frame: &[u8], class: u32, alphabet: u32, run: Run) -> EditsChecked
     ensures { λ r. ⌜ r ≡ checkOf class alphabet (now (frame .entry)) (run .«edits_at») (run .edits) (run .mapped) ⌝ }
 {
@@ -255,7 +271,7 @@ pub fn check(frame: &[u8], class: u32, alphabet: u32, run: Run) -> EditsChecked
     if substitutes(class) {
         return check_substitutions(frame, class, alphabet, run);
     }
-    check_edits(frame, class, alphabet, 0, run)
+    check_edits(frame, class, alphabet, run)
 }
 
 // The edits of one piece of a read. Offsets count over the whole read, so the piece says from which offset it goes until which.

@@ -7,6 +7,7 @@ use Rattle.state.specs.Listed.{words, wordsAt, listedHead}
 use Rattle.bases.specs.Bases.{pastEdit, editBases, basesFrom, refusalFrom, lettersAt}
 use Rattle.bases.specs.Spliced.{piecesBases, readBases}
 use Rattle.bases.specs.Reference.{isLent, baseAt, baseRefusal, matchedBases, matchRefusal}
+use Rattle.edits.specs.Flanks.{insertedAt, someBase, eachDeletion}
 use Rattle.edits.specs.Edits.{widthOf, editAt, editsAt, nextOffset, deletionRefusal, editRefusal, takenFrom}
 use Rattle.edits.specs.Pieces.{piecesFrom, lessFirst}
 use Rattle.splices.specs.Table62.{splicedSegMappingPos}
@@ -40,5 +41,5 @@ use Rattle.record.specs.Record.{stepOf, linkBytes, listedBytes}
 use Rattle.examples.specs.Examples.{Examples}
 
 pub examples : Examples
-unfolding pastEdit editBases basesFrom refusalFrom lettersAt piecesBases readBases isLent baseAt baseRefusal matchedBases matchRefusal widthOf editAt editsAt nextOffset deletionRefusal editRefusal takenFrom editsRefusal answered editsChecked checkOf leftClipped rightClipped unclippedLength splicedLoop splicedEcigarString splicedSegsFrom withMatch mismatchLoop insertionLoop deletionLoop indelLoop decodeECigarMismatches decimalF decimal bigAt fieldAt isDigit nib unhex allDigits be lineWithin andThen decode pairSteps recordSteps same-rec table60 takeOf countsOut noneAbove stateRefusal lentRefusal alignedSteps firstSegment secondSegment fromSecond fromFirst fromPos fromKind planOf linkBytes listedBytes stepOf fromEdits fromSoft fromClips spliceSteps fromLengths fromPieces fromRcomp headAt alignedAt lengthAt rcompAt numberAt lengthsFrom countAt clipsInRead clipsIn clipsAt placed placedAt plainAt alignedBytes unalignedBytes segmentBytes placeRefusal pieceOut piecesRefusal wordsAt piecesFrom lessFirst splicedSegMappingPos positionsFrom piecesIn symbolsFrom fromLength unalignedAt words listedHead sizeOf letterOf codeOfN leastSegments unitRefusal finishedPlan talliedBlock
+unfolding pastEdit editBases basesFrom refusalFrom lettersAt piecesBases readBases isLent baseAt baseRefusal matchedBases matchRefusal widthOf editAt editsAt nextOffset deletionRefusal editRefusal takenFrom editsRefusal answered editsChecked checkOf insertedAt someBase eachDeletion leftClipped rightClipped unclippedLength splicedLoop splicedEcigarString splicedSegsFrom withMatch mismatchLoop insertionLoop deletionLoop indelLoop decodeECigarMismatches decimalF decimal bigAt fieldAt isDigit nib unhex allDigits be lineWithin andThen decode pairSteps recordSteps same-rec table60 takeOf countsOut noneAbove stateRefusal lentRefusal alignedSteps firstSegment secondSegment fromSecond fromFirst fromPos fromKind planOf linkBytes listedBytes stepOf fromEdits fromSoft fromClips spliceSteps fromLengths fromPieces fromRcomp headAt alignedAt lengthAt rcompAt numberAt lengthsFrom countAt clipsInRead clipsIn clipsAt placed placedAt plainAt alignedBytes unalignedBytes segmentBytes placeRefusal pieceOut piecesRefusal wordsAt piecesFrom lessFirst splicedSegMappingPos positionsFrom piecesIn symbolsFrom fromLength unalignedAt words listedHead sizeOf letterOf codeOfN leastSegments unitRefusal finishedPlan talliedBlock
 examples = refl

@@ -5,12 +5,15 @@ use Prim.Native.Nat.{ℕ, _+_, _-_}
 use mathlib.Core.Bool.{cond}
 use lib.Dec.{eqb}
 use lib.ListN.{length}
+use Rattle.refusal.specs.Numbers.{fine}
 use Rattle.edits.specs.Edits.{substitution, takenBy}
+use Rattle.edits.specs.code.Flank.{flankEnd}
+use Rattle.edits.specs.declared.flank.Flank.{Flank}
 use Rattle.edits.specs.declared.edit.Edit.{Edit}
 use Rattle.ecigar.specs.declared.walk.Walk.{Walk}
 use Rattle.ecigar.specs.declared.check.Tally.{Tally}
 use Rattle.ecigar.specs.declared.check.EditsChecked.{EditsChecked}
-use Rattle.ecigar.specs.declared.check.EditsChecked.the-variants.{Fine}
+use Rattle.ecigar.specs.declared.check.EditsChecked.the-variants.{Fine, Refused}
 use Rattle.ecigar.specs.Table90.{printAll}
 use Rattle.ecigar.specs.Ecigar.{setOutAt, past, gap, ending}
 
@@ -34,3 +37,7 @@ tallied t e =
 -- the tally after the last edit
 unfoldable pub afterLast : (mapped : ℕ) → Tally → EditsChecked
 afterLast mapped t = Fine (t .taken + (mapped - t .walk .next)) (t .text + length (printAll (ending mapped (t .walk))))
+
+-- the same of a whole read: 12 where a deletion is not flanked
+unfoldable pub afterRead : (mapped : ℕ) → Flank → Tally → EditsChecked
+afterRead mapped f t = cond (eqb (flankEnd f (t .walk .next) mapped) fine) (afterLast mapped t) (Refused (flankEnd f (t .walk .next) mapped))

@@ -1,7 +1,8 @@
 -- `ecigar::check::check` meets its contract: the tests on the way pick the case. Assumes nothing.
 use mathlib.Core.Path.{sym, _∙_}
 use native.Mathlib.Omega.{arith}
-use Rattle.ecigar.specs.Check.{editsChecked, checkOf}
+use Rattle.ecigar.specs.Check.{checkOf}
+use Rattle.ecigar.proofs.CheckLaws.{read-letters}
 use borrow.Author.Tests.{le-ltb, lt-ltb}
 use borrow.Author.Needs.{needs}
 use Rattle.ecigar.proofs.check.check.Statement.{statement}
@@ -23,13 +24,13 @@ check-substitutions-requires c κs = (sym (c .before .substitutes .ensures) ∙ 
 
 returns-3 : tie.Need-returns-3
 unfolding checkOf
-returns-3 c = simp (le-ltb _ _ (c .before .before .before .before .before .if1 .left), le-ltb _ _ (c .before .before .before .if2 .left)) (c .check-substitutions .ensures)
+returns-3 c = simp (le-ltb _ _ (c .before .before .before .before .before .if1 .left), le-ltb _ _ (c .before .before .before .if2 .left)) (c .check-substitutions .ensures ∙ sym (read-letters _ _ _ _ _ _ (sym (c .before .before .substitutes .ensures) ∙ c .before .if3 .taken)))
 
 check-edits-requires : tie.Need-check-edits-requires
 check-edits-requires c κs = search needs
 
 returns-4 : tie.Need-returns-4
-unfolding checkOf editsChecked
+unfolding checkOf
 returns-4 c = simp (le-ltb _ _ (c .before .before .before .before .before .if1 .left), le-ltb _ _ (c .before .before .before .if2 .left)) (c .check-edits .ensures)
 
 pub check-spec : {M : Type 1} → statement M

@@ -6,7 +6,7 @@ use borrow.Author.Tests.{ltb-false}
 use borrow.Author.Needs.{needs}
 use Rattle.edits.specs.Lengths.{mostRead}
 use Rattle.edits.proofs.EditLaws.{edit-accepted}
-use Rattle.ecigar.specs.Check.{editsChecked}
+use Rattle.ecigar.specs.Check.{pieceChecked}
 use Rattle.ecigar.proofs.CheckLaws.{check-start, check-short, check-out}
 use Rattle.ecigar.proofs.SubstitutionLaws.{SubstitutionsChecked, substitutions-start, substitutions-on, substitutions-end}
 use Rattle.ecigar.proofs.check.check_substitutions.Statement.{statement}
@@ -14,7 +14,7 @@ use Rattle.ecigar.proofs.check.check_substitutions.Tie as tie
 
 abbrev Inv-loop : tie.InvT-loop
 Inv-loop frame class letters run step symbols next₀ text₀ at₀ left₀ next text at left =
-    SubstitutionsChecked class letters frame (run .mapped) left at next text (editsChecked class letters frame (run .«edits_at») (run .edits) (run .mapped))
+    SubstitutionsChecked class letters frame (run .mapped) left at next text (pieceChecked class letters frame 0 (run .«edits_at») (run .edits) (run .mapped))
 
 abbrev μ-loop : tie.MeasureT-loop
 μ-loop frame class letters run step symbols next₀ text₀ at₀ left₀ next text at left = left
@@ -30,7 +30,6 @@ size-requires : tie.Need-size-requires Inv-loop μ-loop
 size-requires c κs = tt
 
 loop-holds : tie.Need-loop-holds Inv-loop μ-loop
-unfolding editsChecked
 loop-holds c = substitutions-start _ _ _ _ _ _ (check-start _ _ _ _ 0 _ _ _ refl)
 
 ends-within-requires : tie.Need-ends-within-requires Inv-loop μ-loop
