@@ -5,4 +5,5 @@ pub mod ReadLaws
 pub mod RefusalLaws
 pub mod BytesLaws
 pub mod SplicedLaws
+pub mod FlankedLaws
 pub mod Unique

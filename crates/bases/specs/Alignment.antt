@@ -7,7 +7,7 @@ use mathlib.Core.List.{List, [], _∷_}
 use Rattle.alphabet.specs.Table35.{sizeOf}
 use Rattle.edits.specs.declared.edit.Edit.{Edit}
 use Rattle.edits.specs.declared.Block.{Block}
-use Rattle.edits.specs.Edits.{deletion, editsAt, Sound}
+use Rattle.edits.specs.Edits.{substitution, deletion, editsAt, Sound}
 use Rattle.edits.specs.Lengths.{softBases, mappedLength}
 use Rattle.edits.specs.Pieces.{Piece}
 use Rattle.bases.specs.declared.places.Places.{Places}
@@ -39,6 +39,26 @@ MatchedIn (p ∷ ps) i position = UnderMatch (p .until) (pieceBeginning p) (p .e
 unfoldable pub EditedIn : List Piece → ℕ → Edit → Type 0
 EditedIn [] i d = ⊥
 EditedIn (p ∷ ps) i d = OfEdit (p .edits) i d ⊎ EditedIn ps i d
+
+-- a substitution brings base i in place of the reference's base at a position
+pub record Substitutes (p : Places) (e : Edit) (i position : ℕ) : Type 0 where
+  pub kind : e .kind ≡ substitution
+  pub base : e .offset ≡ i
+  pub at : position ≡ R p + (e .offset - r p)
+
+-- base i is substituted at a reference position, by one of the edits
+unfoldable pub UnderLetter : Places → List Edit → ℕ → ℕ → Type 0
+UnderLetter p [] i position = ⊥
+UnderLetter p (e ∷ es) i position = Substitutes p e i position ⊎ UnderLetter (pastEdit e p) es i position
+
+-- in one of the pieces
+unfoldable pub SubstitutedIn : List Piece → ℕ → ℕ → Type 0
+SubstitutedIn [] i position = ⊥
+SubstitutedIn (p ∷ ps) i position = UnderLetter (pieceBeginning p) (p .edits) i position ⊎ SubstitutedIn ps i position
+
+-- base i lies on a reference position: it matches there, or is substituted there. An inserted base lies on none
+abbrev pub LiesOn : List Piece → ℕ → ℕ → Type 0
+LiesOn ps i position = MatchedIn ps i position ⊎ SubstitutedIn ps i position
 
 -- a segment whose block was accepted: its soft clips do not reach the read length (9), and each edit is accepted where it stands (11, 10, 12)
 pub record Acceptable (class alphabet : ℕ) (frame : List ℕ) (s : Block) : Type 0 where

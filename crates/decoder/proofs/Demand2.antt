@@ -18,7 +18,7 @@ use Rattle.bases.proofs.ReadLaws.{getD-letters}
 use Rattle.block.specs.declared.unaligned.UnalignedBlock.{UnalignedBlock}
 use Rattle.segment.specs.Segment.{segmentBytes, alignedBytes, unalignedBytes}
 use Rattle.segment.specs.declared.Placed.{Placed}
-use Rattle.segment.proofs.StandardLaws.{SegmentAccepted, listed-begins, listed-is-table94, listed-operations, listed-counts, listed-reads, listed-end, listed-pieces, listed-apart, listed-short, listed-length, listed-from, listed-place, listed-lent, listed-missing, listed-edit, listed-left, listed-right, listed-letter}
+use Rattle.segment.proofs.StandardLaws.{SegmentAccepted, listed-begins, listed-is-table94, listed-operations, listed-counts, listed-reads, listed-end, listed-pieces, listed-apart, listed-flanked, listed-first, listed-last, listed-plain, listed-short, listed-length, listed-from, listed-place, listed-lent, listed-missing, listed-edit, listed-left, listed-right, listed-letter}
 use Rattle.taking.proofs.Reading.{decode-reads}
 use Rattle.plan.specs.Plan.{recordSteps, planOf}
 use Rattle.plan.specs.Said.{AlignedIn}
@@ -57,7 +57,12 @@ read-is-the-standards u reference symbols frame q bytes a =
       ends = listed-end u reference symbols frame q a;
       pieces-inside = listed-pieces u reference symbols frame q a;
       pieces-apart = listed-apart u reference symbols frame q a;
+      behind-a-base = λ o d. listed-flanked u reference symbols frame q a o d .0;
+      before-a-base = λ o d. listed-flanked u reference symbols frame q a o d .1;
+      first-base = listed-first u reference symbols frame q a;
+      last-base = listed-last u reference symbols frame q a;
       ecigar = listed-is-table94 u reference symbols frame q a;
+      short-plain = listed-plain u reference symbols frame q a bytes;
       short = listed-short u reference symbols frame q a bytes;
       operations = listed-operations u reference symbols frame q a;
       counts = listed-counts u reference symbols frame q a;

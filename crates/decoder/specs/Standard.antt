@@ -3,9 +3,9 @@
 use Prim.Native.Nat.{ℕ, _+_, _-_, _^_, _<_, _≤_}
 use mathlib.Core.Path.{_≡_}
 use mathlib.Core.Logic.{_⊎_}
+use mathlib.Core.Bool.{true}
 use mathlib.Core.List.{List, _++_}
 use lib.ListN.{length, getD}
-use Rattle.limits.specs.Limits.{mostEcigar}
 use Rattle.frame.specs.Hex.{unhex, be}
 use Rattle.frame.specs.Field.{bigAt}
 use Rattle.alphabet.specs.Table35.{letterN, letterOf}
@@ -16,12 +16,14 @@ use Rattle.pairing.specs.Table60.{mappingPos}
 use Rattle.pairing.specs.Pairing.{pairOf, pairTakes}
 use Rattle.pairing.specs.declared.LinkRead.the-variants.{Linked}
 use Rattle.edits.specs.declared.edit.Edit.{Edit}
-use Rattle.edits.specs.Pieces.{EachPiece}
+use Rattle.edits.specs.Flanks.{hasBase}
+use Rattle.edits.specs.Pieces.{Piece, EachPiece, OfFirst, OfLast}
+use Rattle.ecigar.specs.Longest.{longestPlain, longestSpliced}
 use Rattle.ecigar.specs.Table90.{printAll, movesRead, movesReference, total, AllPositive}
 use Rattle.bases.specs.Bases.{lettersAt}
 use Rattle.block.specs.declared.unaligned.UnalignedBlock.{UnalignedBlock}
 use Rattle.segment.specs.Segment.{segmentBytes}
-use Rattle.segment.specs.Listed.{listedBases, listedEcigar, listedOperations, mappedIn, table94, piecesAt, Matches, Brought, Letter, InUnit, Follow}
+use Rattle.segment.specs.Listed.{listedBases, listedEcigar, listedOperations, mappedIn, table94, piecesAt, Matches, Brought, Lies, Deleted, Letter, InUnit, Follow}
 use Rattle.segment.specs.declared.Placed.{Placed}
 use Rattle.segment.specs.declared.Segment.the-variants.{Aligned, Unaligned, Absent}
 use Rattle.taking.specs.Reading.{takenIn, raisedBy}
@@ -46,10 +48,20 @@ pub record StandardRead (u : Unit) (reference symbols frame : List ℕ) (q : Pla
   pub pieces-inside : EachPiece (InUnit u) (piecesAt u symbols frame q)
   -- and each behind the first begins behind the end of the one before it
   pub pieces-apart : Follow (piecesAt u symbols frame q)
+  -- no deletion comes before its first match or substitution: some base before it lies on the reference
+  pub behind-a-base : (o : ℕ) → Deleted u frame q o → (i : ℕ) × ((i < o) × ((at : ℕ) × Lies u symbols frame q i at))
+  -- and none behind its last: some base from it on does
+  pub before-a-base : (o : ℕ) → Deleted u frame q o → (i : ℕ) × ((o ≤ i) × ((i < mappedIn q) × ((at : ℕ) × Lies u symbols frame q i at)))
+  -- so the position that is listed is that of a base which the read has (clause 3.14), wherever its first piece has a match or a substitution at all
+  pub first-base : OfFirst (λ (p : Piece). hasBase p ≡ true → (i : ℕ) × Lies u symbols frame q i (q .position)) (piecesAt u symbols frame q)
+  -- and so is the last position that its E-CIGAR reaches, wherever its last piece has one
+  pub last-base : OfLast (λ (p : Piece). hasBase p ≡ true → (i : ℕ) × Lies u symbols frame q i (q .position + total movesReference (listedOperations u symbols frame q) - 1)) (piecesAt u symbols frame q)
   -- its E-CIGAR is the string that Table 94 makes of the mismatches and clips in its block, and of its pieces
   pub ecigar : listedEcigar u symbols frame q ≡ table94 u symbols frame q
-  -- it has at most 4,179 characters, where the unit's end has 32 bits
-  pub short : u .end < 2 ^ 32 → length (listedEcigar u symbols frame q) ≤ mostEcigar
+  -- of a read in one piece it has at most 4,012 characters
+  pub short-plain : q .splices .count ≡ 1 → length (listedEcigar u symbols frame q) ≤ longestPlain
+  -- and of any read at most 4,165, where the unit's end has 32 bits
+  pub short : u .end < 2 ^ 32 → length (listedEcigar u symbols frame q) ≤ longestSpliced
   -- it is written from rows of Table 90
   pub operations : listedEcigar u symbols frame q ≡ printAll (listedOperations u symbols frame q)
   -- none of them says that 0 bases match, are inserted, deleted or clipped, nor that 0 positions are spliced out

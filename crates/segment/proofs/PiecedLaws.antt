@@ -43,7 +43,7 @@ use Rattle.segment.proofs.OneLaws.{onlyPiece, only-piece, only-text}
 
 -- ---- as many positions as pieces
 
-length-positions : (symbols : List ℕ) (m : Mapping) (lengths : List ℕ) → length (positionsFrom symbols m lengths) ≡ length lengths
+pub length-positions : (symbols : List ℕ) (m : Mapping) (lengths : List ℕ) → length (positionsFrom symbols m lengths) ≡ length lengths
 unfolding positionsFrom
 length-positions symbols m [] = refl
 length-positions symbols m (n ∷ []) = refl

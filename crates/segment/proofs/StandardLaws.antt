@@ -3,7 +3,8 @@
 use Prim.Native.Nat.{ℕ, _+_, _-_, _^_, _<_, _≤_}
 use mathlib.Core.Path.{_≡_, refl, sym, ap, _∙_}
 use mathlib.Core.Logic.{_⊎_, ⊎-elim}
-use mathlib.Core.List.{List, _∷_}
+use mathlib.Core.Bool.{true, false}
+use mathlib.Core.List.{List, [], _∷_}
 use native.Mathlib.Omega.{arith}
 use native.Mathlib.Nat.{sub-zero}
 use borrow.Author.Tests.{eqb-true, lt-ltb, le-ltb, ltb-true, ltb-false, leb-false}
@@ -18,25 +19,32 @@ use Rattle.alphabet.specs.Table35.{letterN, sizeOf, letterOf, codeOfN}
 use Rattle.alphabet.proofs.AlphabetLaws.{letter-of-n, code-of-n-inside}
 use Rattle.state.proofs.HeadLaws.{length-wordsAt}
 use Rattle.edits.specs.declared.edit.Edit.{Edit}
-use Rattle.edits.specs.Lengths.{mostEcigar, softBases}
-use Rattle.edits.specs.Edits.{blockEdits}
-use Rattle.edits.specs.Pieces.{SignedPosition, straight, positionOf, Piece, beginsAt, endOf, lessFirst, EachPiece, Spans}
+use Rattle.edits.specs.Lengths.{mostEdits, mostPieces, softBases}
+use Rattle.edits.specs.Flanks.{insertedAt, someBase, flanked, eachDeletion, allFlanked, hasBase}
+use Rattle.edits.specs.Pieces.{SignedPosition, straight, positionOf, Piece, beginsAt, endOf, lessFirst, EachPiece, cons, OfFirst, OfLast, Spans}
 use Rattle.edits.proofs.EditLaws.{length-edits}
 use Rattle.edits.proofs.PieceLaws.{PieceSound}
+use Rattle.edits.proofs.FlankLaws.{and-both, some-base, each-holds}
+use Rattle.edits.proofs.FlankPieceLaws.{fronted, Below, flanked-front, flanked-back, flanked-least, flanked-below, pieces-uninserted, pieces-below, first-least, first-fronted, last-backed}
+use Rattle.edits.specs.code.Flank.{backed}
 use Rattle.splices.specs.code.Mapping.{positionsFrom}
 use Rattle.splices.specs.code.Walk.{lengthsIn, firstMapping, piecesIn}
 use Rattle.ecigar.specs.Table90.{movesRead, movesReference, total, printAll, AllPositive}
 use Rattle.ecigar.specs.Ecigar.{OfItsClass}
-use Rattle.ecigar.specs.Spliced.{readText, Apart}
+use Rattle.ecigar.specs.Spliced.{readText, Apart, lastPiece, piecesEdits}
+use Rattle.ecigar.specs.Longest.{longestPlain, longestSpliced}
 use Rattle.ecigar.proofs.OperationLaws.{ClipsFit}
-use Rattle.ecigar.proofs.SplicedLaws.{PositionFits, clipped-length, read-positive, read-read, read-reference, read-within, pieces-edits}
+use Rattle.ecigar.proofs.SplicedLaws.{clipped-length, read-positive, read-read, read-reference, pieces-edits}
+use Rattle.ecigar.proofs.ShortLaws.{EndFits, one-short, read-short}
+use Rattle.bases.specs.Alignment.{LiesOn}
 use Rattle.bases.specs.Reference.{isLent, lentSymbol, baseAt, baseRefusal}
 use Rattle.bases.proofs.SplicedLaws.{length-readBases, spliced-under-match, spliced-of-edit, spliced-left, spliced-right, from-some-piece, matched-place, matched-fine, edited-symbol}
+use Rattle.bases.proofs.FlankedLaws.{uninserted-lies, first-lies, last-lies}
 use Rattle.pieces.specs.Placed.{piecesRefusal}
 use Rattle.block.specs.Aligned.{alignedAt}
 use Rattle.block.specs.Unaligned.{unalignedAt}
 use Rattle.segment.specs.Segment.{blockPieces, placement, placedSegment, placed, afterBlock, placedAt, afterPlain, plainAt}
-use Rattle.segment.specs.Listed.{listedBases, listedEcigar, listedOperations, piecesAt, mappedIn, table94, Matches, Brought, Letter, InUnit, Follow}
+use Rattle.segment.specs.Listed.{listedBases, listedEcigar, listedOperations, editsIn, piecesAt, mappedIn, table94, Matches, Brought, Lies, Deleted, Letter, InUnit, Follow}
 use Rattle.segment.specs.code.Ready.{Pieced}
 use Rattle.block.specs.declared.head.BlockHead.{BlockHead}
 use Rattle.block.specs.code.Ready.{ReadyHead}
@@ -52,7 +60,8 @@ use Rattle.segment.specs.declared.Segment.the-variants.{Aligned, Unalign
 use Rattle.segment.specs.declared.SegmentRead.{SegmentRead}
 use Rattle.segment.specs.declared.SegmentRead.the-variants.{Whole}
 use Rattle.block.proofs.ReadyLaws.{ReadyBlock, of-its-class, block-ready}
-use Rattle.segment.proofs.PiecedLaws.{all-sound, all-span, text-is-table94}
+use Rattle.segment.proofs.OneLaws.{onlyPiece, only-piece}
+use Rattle.segment.proofs.PiecedLaws.{length-positions, all-sound, all-span, text-is-table94}
 use Rattle.segment.proofs.PlacedLaws.{AllPlaced, all-placed, placed-each, placed-apart, placed-last, Begins, begins, placed-begins, pieces-few}
 use Rattle.segment.proofs.SegmentLaws.{pieced-ready}
 
@@ -62,6 +71,7 @@ use Rattle.segment.proofs.SegmentLaws.{pieced-ready}
 pub record SegmentAccepted (u : Unit) (reference symbols frame : List ℕ) (q : Placed) : Type 0 where
   pub class : OfItsClass (u .class) (q .block)
   pub pieced : Pieced (u .class) (u .alphabet) frame (q .block) (q .splices)
+  pub flanks : allFlanked (mappedIn q) (editsIn u frame q) ≡ true
   pub clipped : (i : ℕ) → i < softBases (q .block .clips) → getD frame (q .block .«soft_at» + i) 0 < sizeOf (u .alphabet)
   pub fit : ((i : ℕ) → getD frame i 0 < 256) → ClipsFit (q .block .clips)
   pub placed : AllPlaced u reference 0 (piecesAt u symbols frame q)
@@ -79,6 +89,7 @@ module _ (u : Unit) (reference symbols frame : List ℕ) (position : ℕ) (q : P
         record {
           class = of-its-class (u .class) (u .alphabet) frame a r first last;
           pieced = pieced-ready (u .class) (u .alphabet) frame a r;
+          flanks = r .flanks;
           clipped = r .sides .symbols;
           fit = r .sides .fit;
           placed = all-placed u reference 0 (blockPieces u symbols frame position a) (eqb-true _ _ s);
@@ -142,6 +153,31 @@ base-letter alphabet reference first at z =
     (λ s. let y = simp (t, s) at z in absurd (omega arith))
     (λ s. (lentSymbol reference first at, (leb-false (sizeOf alphabet) (lentSymbol reference first at) s, simp t))))
     (λ t. (codeOfN alphabet, (code-of-n-inside alphabet, simp t (sym (letter-of-n alphabet)))))
+
+-- ---- the first piece, and the last
+
+is-last : (P : Piece → Type 0) (p : Piece) (ps : List Piece) → P (lastPiece p ps) → OfLast P (p ∷ ps)
+unfolding lastPiece
+is-last P p [] h = h
+is-last P p (q ∷ ps) h = is-last P q ps h
+
+last-both : (P Q S : Piece → Type 0) (l : List Piece) → OfLast P l → OfLast Q l → ((p : Piece) → P p → Q p → S p) → OfLast S l
+last-both P Q S [] x y f = tt
+last-both P Q S (p ∷ []) x y f = f p x y
+last-both P Q S (p ∷ q ∷ ps) x y f = last-both P Q S (q ∷ ps) x y f
+
+-- a base of the first piece lies where the read begins
+first-at : (l : List Piece) (position symbols : ℕ) → OfFirst (λ (p : Piece). beginsAt p ≡ position) l → EachPiece (PieceSound symbols) l → OfFirst (λ (p : Piece). fronted (p .start) (p .edits) ≡ true) l
+    → OfFirst (λ (p : Piece). hasBase p ≡ true → (i : ℕ) × LiesOn l i position) l
+first-at [] position symbols q h f = tt
+first-at (p ∷ ps) position symbols q (cons _ h hs) f = λ b. rw (← q) (first-lies p ps h f b)
+
+-- and one of the last where it ends
+last-at : (l : List Piece) (reach symbols : ℕ) → OfLast (λ (p : Piece). endOf p ≡ reach) l → EachPiece (PieceSound symbols) l → OfLast (λ (p : Piece). backed (p .until) (p .edits) ≡ true) l
+    → OfLast (λ (p : Piece). hasBase p ≡ true → (i : ℕ) × LiesOn l i (reach - 1)) l
+last-at l reach symbols q h f =
+    last-both (λ (p : Piece). endOf p ≡ reach) (λ (p : Piece). hasBase p ≡ true → (i : ℕ) × LiesOn l i (endOf p - 1)) _ l q (last-lies l l h f (λ i x w. w))
+    (λ p e w b. rw (← e) (w b))
 
 -- ---- what is listed of it
 
@@ -260,17 +296,95 @@ module _ (u : Unit) (reference symbols frame : List ℕ) (q : Placed) (a : Segme
       let at : q .block .«soft_at» + left + j ≡ q .block .«soft_at» + (left + j) = omega arith in
       rw (← k) (rw (listed-right j less, at) (_, (a .clipped (left + j) (omega arith), refl)))))
 
-  -- no E-CIGAR is longer than 4,179 characters
-  pub listed-short : ((i : ℕ) → getD frame i 0 < 256) → u .end < 2 ^ 32 → length (listedEcigar u symbols frame q) ≤ mostEcigar
+  -- ---- its deletions are flanked
+
+  abbrev edits : List Edit
+  edits = editsIn u frame q
+
+  abbrev lengths : List ℕ
+  lengths = lengthsIn frame (q .splices)
+
+  abbrev positions : List SignedPosition
+  positions = positionsFrom symbols (firstMapping (q .splices) (q .position)) lengths
+
+  -- a base that is not inserted lies on the reference
+  lies : (i : ℕ) → i < mappedIn q → insertedAt i edits ≡ false → (at : ℕ) × Lies u symbols frame q i at
   unfolding piecesIn
+  lies i h n = uninserted-lies 0 (mappedIn q) i each-sound (pieces-uninserted (mappedIn q) 0 i edits (lessFirst left lengths) positions n) in-span (omega arith) h
+
+  -- before each deletion there is one, and behind it
+  pub listed-flanked : (o : ℕ) → Deleted u frame q o
+      → ((i : ℕ) × ((i < o) × ((at : ℕ) × Lies u symbols frame q i at))) × ((i : ℕ) × ((o ≤ i) × ((i < mappedIn q) × ((at : ℕ) × Lies u symbols frame q i at))))
+  listed-flanked o d =
+      let h = each-holds (flanked (mappedIn q) edits) o edits (a .flanks) d in
+      let both = and-both (someBase edits 0 o) (someBase edits o (mappedIn q - o)) h in
+      let x = some-base edits 0 o (both .0) in
+      let y = some-base edits o (mappedIn q - o) (both .1) in
+      let below : o < mappedIn q = omega (arith, y .1 .0, y .1 .1 .0) in (
+        (x .0, (omega (arith, x .1 .1 .0), lies (x .0) (omega (arith, x .1 .1 .0)) (x .1 .1 .1))),
+        (y .0, (y .1 .0, (omega (arith, y .1 .1 .0), lies (y .0) (omega (arith, y .1 .1 .0)) (y .1 .1 .1)))),
+      )
+
+  begun : beginsAt (start .piece) ≡ q .position
+  begun = ap (λ (x : SignedPosition). positionOf x) (start .at-is) ∙ sub-zero (q .position)
+
+  ending : OfLast (λ (p : Piece). endOf p ≡ q .position + total movesReference (listedOperations u symbols frame q)) pieces
+  ending =
+      rw (start .are)
+      (is-last _ (start .piece) (start .others)
+      (omega (arith, begun, read-reference (u .alphabet) (q .block .rcomp) (sizeOf (u .alphabet)) (q .block .clips) (start .piece) (start .others) apart (rw (start .are) at each-sound))))
+
+  fronts : OfFirst (λ (p : Piece). fronted (p .start) (p .edits) ≡ true) pieces
+  unfolding piecesIn
+  fronts = first-fronted (mappedIn q) (sizeOf (u .alphabet)) 0 edits (lessFirst left lengths) positions (a .pieced .sound) (flanked-front (mappedIn q) edits (a .flanks))
+
+  backs : OfLast (λ (p : Piece). backed (p .until) (p .edits) ≡ true) pieces
+  unfolding piecesIn
+  backs =
+      last-backed (mappedIn q) (sizeOf (u .alphabet)) 0 edits (lessFirst left lengths) positions
+      (length-positions symbols (firstMapping (q .splices) (q .position)) lengths ∙ sym (clipped-length left lengths))
+      (a .pieced .sound) (flanked-back (mappedIn q) edits (a .flanks))
+
+  -- where the first piece has a base on the reference, one lies at the listed position
+  pub listed-first : OfFirst (λ (p : Piece). hasBase p ≡ true → (i : ℕ) × Lies u symbols frame q i (q .position)) pieces
+  listed-first = first-at pieces (q .position) (sizeOf (u .alphabet)) (rw (start .are) begun) each-sound fronts
+
+  -- where the last piece has one, one lies at the last position that its E-CIGAR reaches
+  pub listed-last : OfLast (λ (p : Piece). hasBase p ≡ true → (i : ℕ) × Lies u symbols frame q i (q .position + total movesReference (listedOperations u symbols frame q) - 1)) pieces
+  listed-last = last-at pieces _ (sizeOf (u .alphabet)) ending each-sound backs
+
+  -- ---- how long its E-CIGAR is
+
+  few-edits : piecesEdits pieces ≤ mostEdits
+  unfolding piecesIn
+  few-edits = omega (arith, a .pieced .few, length-edits (u .class) (u .alphabet) frame (q .block .edits) (q .block .«edits_at»), pieces-edits (mappedIn q) 0 edits (lessFirst left lengths) positions)
+
+  few-pieces : length pieces ≤ mostPieces
+  unfolding piecesIn
+  few-pieces = omega (arith, a .pieced .most, length-wordsAt (q .splices .count) frame (q .splices .«lengths_at»), clipped-length left lengths, pieces-few (mappedIn q) 0 edits (lessFirst left lengths) positions)
+
+  all-below : EachPiece Below pieces
+  unfolding piecesIn
+  all-below = pieces-below (mappedIn q) 0 edits (lessFirst left lengths) positions (flanked-below (mappedIn q) edits (a .flanks))
+
+  least : OfFirst (λ (p : Piece). eachDeletion (λ o. leb 1 o) (p .edits) ≡ true) pieces
+  unfolding piecesIn
+  least = first-least (mappedIn q) 0 edits (lessFirst left lengths) positions (flanked-least (mappedIn q) edits (a .flanks))
+
+  -- no E-CIGAR is longer than 4,165 characters
+  pub listed-short : ((i : ℕ) → getD frame i 0 < 256) → u .end < 2 ^ 32 → length (listedEcigar u symbols frame q) ≤ longestSpliced
   listed-short bytes fits =
-      let lengths = lengthsIn frame (q .splices) in
-      let positions = positionsFrom symbols (firstMapping (q .splices) (q .position)) lengths in
-      let es = blockEdits (u .class) (u .alphabet) frame (q .block) in
-      rw (← (text-is-table94 u symbols frame q (a .class) (a .pieced)))
-      (read-within (u .alphabet) (q .block .rcomp) (sizeOf (u .alphabet)) 0 (mappedIn q) (q .block .clips) pieces in-span each-sound
-      (placed-each u reference PositionFits (λ least p h. omega (arith, h .inside .to)) 0 pieces (a .placed))
-      (a .fit bytes)
-      (omega (arith, a .pieced .most, length-wordsAt (q .splices .count) frame (q .splices .«lengths_at»), clipped-length left lengths, pieces-few (mappedIn q) 0 es (lessFirst left lengths) positions))
-      (omega (arith, a .pieced .short))
-      (omega (arith, a .pieced .few, length-edits (u .class) (u .alphabet) frame (q .block .edits) (q .block .«edits_at»), pieces-edits (mappedIn q) 0 es (lessFirst left lengths) positions)))
+      let ends = placed-each u reference EndFits (λ least p h. omega (arith, h .inside .last)) 0 pieces (a .placed) in
+      rw (← (text-is-table94 u symbols frame q (a .class) (a .pieced)), start .are)
+      (read-short (u .alphabet) (q .block .rcomp) (sizeOf (u .alphabet)) (mappedIn q) (q .block .clips) (start .piece) (start .others)
+      (rw (start .are) at in-span) (rw (start .are) at each-sound) apart (rw (start .are) at ends) (rw (start .are) at all-below) (rw (start .are) at least) (a .fit bytes)
+      (rw (start .are) at few-pieces) (omega (arith, a .pieced .short)) (rw (start .are) at few-edits))
+
+  -- and none of a read in one piece longer than 4,012
+  pub listed-plain : ((i : ℕ) → getD frame i 0 < 256) → q .splices .count ≡ 1 → length (listedEcigar u symbols frame q) ≤ longestPlain
+  listed-plain bytes one =
+      let only = only-piece (u .class) (u .alphabet) frame symbols (q .block) (q .splices) (q .position) one in
+      rw (← (text-is-table94 u symbols frame q (a .class) (a .pieced)), only)
+      (one-short (u .alphabet) (q .block .rcomp) (sizeOf (u .alphabet)) (mappedIn q) (q .block .clips) (onlyPiece (u .class) (u .alphabet) frame (q .block) (q .position))
+      (rw only at in-span) record { base = omega (arith, a .pieced .soft); sound = a .pieced .sound } (flanked-below (mappedIn q) edits (a .flanks)) (flanked-least (mappedIn q) edits (a .flanks)) (a .fit bytes)
+      (omega (arith, a .pieced .short)) (omega (arith, a .pieced .few, length-edits (u .class) (u .alphabet) frame (q .block .edits) (q .block .«edits_at»))))

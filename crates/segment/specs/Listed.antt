@@ -8,10 +8,11 @@ use Rattle.unit.specs.declared.Unit.{Unit}
 use Rattle.alphabet.specs.Table35.{sizeOf, letterOf}
 use Rattle.edits.specs.declared.edit.Edit.{Edit}
 use Rattle.edits.specs.Lengths.{mappedLength}
+use Rattle.edits.specs.Flanks.{DeletionAt}
 use Rattle.edits.specs.Pieces.{Piece, belowZero, beginsAt, endOf}
 use Rattle.ecigar.specs.Table90.{Operation}
 use Rattle.ecigar.specs.Spliced.{readOperations, Apart}
-use Rattle.bases.specs.Alignment.{MatchedIn, EditedIn}
+use Rattle.bases.specs.Alignment.{MatchedIn, EditedIn, LiesOn}
 use Rattle.segment.specs.declared.Placed.{Placed}
 pub use Rattle.segment.specs.Segment.{editsIn, piecesAt, basesListed, table94}
 
@@ -40,6 +41,14 @@ Matches u symbols frame q i at = MatchedIn (piecesAt u symbols frame q) i at
 -- mapped base i is brought by an edit, a substitution or an insertion
 abbrev pub Brought : Unit → (symbols frame : List ℕ) → Placed → ℕ → Edit → Type 0
 Brought u symbols frame q i e = EditedIn (piecesAt u symbols frame q) i e
+
+-- mapped base i lies on the reference at a position: it matches there, or is substituted there
+abbrev pub Lies : Unit → (symbols frame : List ℕ) → Placed → ℕ → ℕ → Type 0
+Lies u symbols frame q i at = LiesOn (piecesAt u symbols frame q) i at
+
+-- a deletion of the read stands at an offset
+abbrev pub Deleted : Unit → (frame : List ℕ) → Placed → ℕ → Type 0
+Deleted u frame q offset = DeletionAt offset (editsIn u frame q)
 
 -- a letter of the alphabet (Table 35)
 abbrev pub Letter : ℕ → ℕ → Type 0
