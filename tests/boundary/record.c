@@ -203,6 +203,25 @@ static void misplaced_pieces(void)
     lay_splice(0, 0, 0);
 }
 
+/* A read of class I of four bases in one piece, without clips, at a position; behind it stand the number of its edits and they themselves. */
+#define FOUR_BASES(pos) "03" pos "0004" "00" "01" "0004" "0000000000000000"
+
+/* A deletion has a match or a substitution before it and one behind it. This is told behind the last edit and in front of the segment's place. */
+static void deletions(void)
+{
+    by_line("a deletion before the first base", class_i, none, FOUR_BASES("00000064") "0001" "00000200" "\n", LAMPBUCKLE_OFFSET_OUT);
+    by_line("a deletion behind the last base", class_i, none, FOUR_BASES("00000064") "0001" "00040200" "\n", LAMPBUCKLE_OFFSET_OUT);
+    by_line("a deletion behind an insertion only", class_i, none, FOUR_BASES("00000064") "0002" "00000103" "00010200" "\n", LAMPBUCKLE_OFFSET_OUT);
+    by_line("the same, and a type of 3 behind it", class_i, none, FOUR_BASES("00000064") "0003" "00000103" "00010200" "00010300" "\n", LAMPBUCKLE_FIELD_OUT);
+    by_line("the same, and the frame ends in an edit", class_i, none, FOUR_BASES("00000064") "0003" "00000103" "00010200" "000100" "\n", LAMPBUCKLE_MISFRAMED);
+    by_line("the same past AU end, and a byte left over", class_i, none, FOUR_BASES("0000006d") "0002" "00000103" "00010200" "00" "\n", LAMPBUCKLE_OFFSET_OUT);
+    by_line("with a base before it, past AU end", class_i, none, FOUR_BASES("0000006d") "0002" "00000103" "00020200" "\n", LAMPBUCKLE_POSITION_OUT);
+    /* over introns: in the read's last piece, of which the place is misplaced as well; and between the pieces */
+    lay_splice(0, 0, 0);
+    by_line("a deletion behind the last piece, and a splice of 0", class_i, by_distance, TWO_PIECES "0000000000000000" "0001" "00040200" "\n", LAMPBUCKLE_OFFSET_OUT);
+    by_line("a deletion between the pieces, and a splice of 0", class_i, by_distance, TWO_PIECES "0000000000000000" "0001" "00020200" "\n", LAMPBUCKLE_POSITION_OUT);
+}
+
 /* ---- of two faults the first in the Order; each is a slice of a call that is good but for it */
 
 static void order(void)
@@ -305,5 +324,6 @@ void record_calls(void)
     classes();
     pieces();
     misplaced_pieces();
+    deletions();
     order();
 }

@@ -94,8 +94,8 @@ pub fn record_call(rng: &mut Rng) -> RecordCall {
     let (mut model, record) = some_record(rng);
     let damages = if rng.percent(50) { rng.between(1, 3) } else { 0 };
     let mut places: Vec<u64> = (0..damages).map(|_| rng.below(10)).collect();
-    if damages > 0 && model.class().has_splices() && rng.percent(50) {
-        // Splices have more that can be wrong than other records.
+    if damages > 0 && model.class().has_splices() && rng.percent(80) {
+        // Records that may have splices and deletions have more that can be wrong than others.
         places = vec![0];
     }
     let times = |from: u64, to: u64| places.iter().filter(|place| (from..to).contains(place)).count();

@@ -83,8 +83,8 @@ fn steps(rng: &mut Rng, model: &UnitModel) -> Vec<Step> {
         _ => 3,
     };
     let mut steps: Vec<Step> = (0..count).map(|_| step(rng)).collect();
-    // Splices have more than other blocks that can be wrong with the unit as its author means it.
-    if model.class().has_splices() && rng.percent(60) {
+    // Splices and deletions have more that can be wrong with the unit as its author means it than other blocks.
+    if model.class().has_splices() && rng.percent(90) {
         steps[0] = Step::Model;
     }
     steps.sort();

@@ -1,12 +1,47 @@
-//! What can be wrong with the splices of a read, so that a run can say what its damage has reached.
+//! What can be wrong with the splices and the deletions of a read, so that a run can say what its damage has reached.
 
-use oracle::Fault;
+use oracle::{Bare, Fault, Refusal};
 
-/// Everything that damage is meant to bring about, by name. Empty where the format has no splices.
+/// Everything that damage is meant to bring about, by name; of splices nothing where the format has none.
 pub fn names() -> Vec<String> {
-    if !oracle::Class::I.has_splices() {
-        return Vec::new();
+    let has_splices = oracle::Class::I.has_splices();
+    let spliced = if has_splices { &[false, true][..] } else { &[false] };
+    let mut names: Vec<String> =
+        spliced.iter().flat_map(|spliced| bare().map(|bare| bare_name(bare, *spliced))).collect();
+    if has_splices {
+        names.extend(of_splices().into_iter().map(name));
     }
+    names.sort();
+    names
+}
+
+/// The name of a refusal that is told apart.
+pub fn of(refusal: Refusal) -> Option<String> {
+    match refusal {
+        Refusal::Splices(fault) => Some(name(fault)),
+        Refusal::Deletion { bare, spliced } => Some(bare_name(bare, spliced)),
+        _ => None,
+    }
+}
+
+fn bare() -> [Bare; 6] {
+    [Bare::Front, Bare::BehindInsertions, Bare::Back, Bare::BeforeInsertions, Bare::BothEnds, Bare::NoBase]
+}
+
+fn bare_name(bare: Bare, spliced: bool) -> String {
+    let what = match bare {
+        Bare::Front => "a deletion at the front",
+        Bare::BehindInsertions => "a deletion behind insertions only",
+        Bare::Back => "a deletion at the back",
+        Bare::BeforeInsertions => "a deletion in front of insertions only",
+        Bare::BothEnds => "deletions at both ends",
+        Bare::NoBase => "deletions and insertions only",
+    };
+    let read = if spliced { "a spliced read" } else { "a read in one piece" };
+    format!("{:>2}, {what}, {read}", Refusal::Deletion { bare, spliced }.number())
+}
+
+fn of_splices() -> Vec<Fault> {
     let reserved = [1, 3, 4, 5, 6, 7].map(Fault::Code);
     let others = [
         Fault::Rcomp,
@@ -30,9 +65,7 @@ pub fn names() -> Vec<String> {
         Fault::NegativeSplice,
         Fault::Reference,
     ];
-    let mut names: Vec<String> = others.into_iter().chain(reserved).map(name).collect();
-    names.sort();
-    names
+    others.into_iter().chain(reserved).collect()
 }
 
 /// The refusal number and what is wrong. Codes that no table has go under one name.

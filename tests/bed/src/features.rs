@@ -20,6 +20,7 @@ pub fn features() -> Vec<Feature> {
     features.extend(pair_codes());
     features.extend(reads());
     features.extend(edits());
+    features.extend(deletions());
     features.extend(clips());
     features.extend(positions());
     features.extend(references());
@@ -27,6 +28,7 @@ pub fn features() -> Vec<Feature> {
     if Class::I.has_splices() {
         features.extend(splices());
         features.extend(splices_and_edits());
+        features.extend(splices_and_deletions());
         features.extend(splices_and_places());
     }
     features
@@ -153,12 +155,6 @@ fn edits() -> Vec<Feature> {
                 .last()
                 .is_some_and(|edit| edit.kind == SUBSTITUTION && u64::from(edit.offset) + 1 == block.mapped())
         }),
-        any_aligned("a deletion before the first base", |block| {
-            block.edits.first().is_some_and(|edit| edit.kind == DELETION && edit.offset == 0)
-        }),
-        any_aligned("a deletion after the last base", |block| {
-            block.edits.last().is_some_and(|edit| edit.kind == DELETION && u64::from(edit.offset) == block.mapped())
-        }),
         any_aligned("insertions only, nothing taken", |block| block.taken() == 0),
         neighbours("substitutions side by side", SUBSTITUTION, SUBSTITUTION, 1),
         neighbours("insertions that join", INSERTION, INSERTION, 1),
@@ -171,6 +167,109 @@ fn edits() -> Vec<Feature> {
         neighbours("substitution, deletion behind it", SUBSTITUTION, DELETION, 1),
         feature("a substitution by the letter of index 15", |model| {
             aligned(model).any(|block| block.edits.iter().any(|edit| edit.kind == SUBSTITUTION && edit.symbol == 15))
+        }),
+    ]
+}
+
+/// A read that has a match or a substitution, and what of it matters for where deletions may stand.
+struct Ends<'a> {
+    block: &'a AlignedModel,
+    mapped: u64,
+    /// The first and the last base that is a match or a substitution.
+    first: u64,
+    last: u64,
+    borders: Vec<u64>,
+    /// How many bases before each offset are inserted.
+    inserted_before: Vec<u64>,
+}
+
+impl Ends<'_> {
+    fn of(block: &AlignedModel) -> Option<Ends<'_>> {
+        let mapped = block.mapped();
+        let (first, last) = block.aligned_ends()?;
+        let mut inserted_before = vec![0; mapped as usize + 1];
+        for edit in block.edits.iter().filter(|edit| edit.kind == INSERTION) {
+            inserted_before[usize::from(edit.offset) + 1] = 1;
+        }
+        for offset in 1..inserted_before.len() {
+            inserted_before[offset] += inserted_before[offset - 1];
+        }
+        Some(Ends { block, mapped, first, last, borders: block.borders(), inserted_before })
+    }
+
+    /// The offsets at which something is deleted.
+    fn deletions(&self) -> impl Iterator<Item = u64> + '_ {
+        self.block.edits.iter().filter(|edit| edit.kind == DELETION).map(|edit| u64::from(edit.offset))
+    }
+
+    fn is_substituted(&self, offset: u64) -> bool {
+        self.block.edits.iter().any(|edit| edit.kind == SUBSTITUTION && u64::from(edit.offset) == offset)
+    }
+
+    /// Whether there are bases from one offset to another, all of them inserted.
+    fn is_inserted(&self, from: u64, to: u64) -> bool {
+        from < to && self.inserted_before[to as usize] - self.inserted_before[from as usize] == to - from
+    }
+
+    /// Right behind the first base that is not inserted, or right in front of the last.
+    fn behind_first(&self, at: u64) -> bool {
+        at == self.first + 1
+    }
+
+    fn before_last(&self, at: u64) -> bool {
+        at == self.last
+    }
+
+    fn at_border(&self, at: u64) -> bool {
+        self.borders.contains(&at)
+    }
+}
+
+/// Whether this holds of some deletion of the block, told its offset.
+fn has_deletion(block: &AlignedModel, holds: impl Fn(&Ends, u64) -> bool) -> bool {
+    Ends::of(block).is_some_and(|read| read.deletions().any(|at| holds(&read, at)))
+}
+
+fn any_deletion(name: &str, holds: impl Fn(&Ends, u64) -> bool + 'static) -> Feature {
+    any_aligned(name, move |block| has_deletion(block, &holds))
+}
+
+/// As near to the ends of a read as deletions may stand.
+fn deletions() -> Vec<Feature> {
+    vec![
+        any_deletion("a deletion right behind the first base", |r, at| r.behind_first(at) && r.first == 0),
+        any_deletion("a deletion right in front of the last base", |r, at| r.before_last(at) && r.last + 1 == r.mapped),
+        any_deletion("a deletion behind a substituted first base", |r, at| r.behind_first(at) && r.is_substituted(0)),
+        any_deletion("a deletion in front of a substituted last base", |r, at| {
+            r.before_last(at) && r.is_substituted(r.mapped - 1)
+        }),
+        any_deletion("a deletion with insertions and one base before it", |r, at| r.behind_first(at) && r.first > 0),
+        any_deletion("a deletion with one base and insertions behind it", |r, at| {
+            r.before_last(at) && r.last + 1 < r.mapped
+        }),
+        any_deletion("a deletion with one base and insertions before it", |r, at| r.is_inserted(r.first + 1, at)),
+        any_deletion("a deletion with insertions and one base behind it", |r, at| r.is_inserted(at, r.last)),
+        any_deletion("a deletion between the only two bases", |r, at| r.behind_first(at) && r.before_last(at)),
+        any_deletion("a deletion behind a soft clip and one base", |r, at| r.block.clips[0] > 0 && r.behind_first(at)),
+        any_deletion("a deletion in front of one base and a soft clip", |r, at| {
+            r.block.clips[2] > 0 && r.before_last(at)
+        }),
+        any_aligned("deletions behind the first base and in front of the last", |block| {
+            has_deletion(block, |r, at| r.behind_first(at) && !r.before_last(at))
+                && has_deletion(block, |r, at| r.before_last(at) && !r.behind_first(at))
+        }),
+        any_aligned("two bases and as many edits as there may be", |block| {
+            block.mapped() == 2 && block.edits.len() == usize::from(EDITS_MAX)
+        }),
+        feature("a deletion right behind the first base, class HM", |model| {
+            model.class() == Class::HM && aligned(model).any(|block| has_deletion(block, |r, at| r.behind_first(at)))
+        }),
+        feature("a deletion right in front of the last base, second segment", |model| {
+            let second = |record: &RecordModel| match record.blocks.get(1) {
+                Some(BlockModel::Aligned(block)) => has_deletion(block, |r, at| r.before_last(at)),
+                _ => false,
+            };
+            model.records.iter().any(second)
         }),
     ]
 }
@@ -340,9 +439,8 @@ fn splices_and_edits() -> Vec<Feature> {
             block.edits.windows(2).any(|two| joined(two) && borders.contains(&u64::from(two[0].offset)))
         }),
         any_spliced("a spliced read without edits", |block| block.edits.is_empty()),
-        any_spliced("a deletion behind the last base of a spliced read", |block| {
-            block.edits.last().is_some_and(|edit| edit.kind == DELETION && u64::from(edit.offset) == block.mapped())
-        }),
+        any_spliced("a first piece of insertions only", |block| block.taken_by_pieces().first() == Some(&0)),
+        any_spliced("a last piece of insertions only", |block| block.taken_by_pieces().last() == Some(&0)),
         any_spliced("a piece of insertions only", |block| block.taken_by_pieces().contains(&0)),
         any_spliced("a piece that takes more than its read bases", |block| {
             block.taken_by_pieces().iter().zip(&block.pieces).any(|(taken, length)| *taken > u64::from(*length))
@@ -360,6 +458,45 @@ fn splices_and_edits() -> Vec<Feature> {
         }),
         any_spliced("a right soft clip that leaves a piece one base", |block| {
             block.clips[2] > 0 && block.pieces.last().is_some_and(|length| block.clips[2] + 1 == *length)
+        }),
+    ]
+}
+
+fn any_spliced_deletion(name: &str, holds: impl Fn(&Ends, u64) -> bool + 'static) -> Feature {
+    any_spliced(name, move |block| has_deletion(block, &holds))
+}
+
+/// The base before a deletion, or the one behind it, lies in another piece, or the only one does.
+fn splices_and_deletions() -> Vec<Feature> {
+    let first_border = |r: &Ends| r.borders.first().copied().unwrap_or(0);
+    let last_border = |r: &Ends| r.borders.last().copied().unwrap_or(0);
+    vec![
+        any_spliced_deletion("a deletion right behind the first base of a spliced read", |r, at| r.behind_first(at)),
+        any_spliced_deletion("a deletion right in front of the last base of a spliced read", |r, at| r.before_last(at)),
+        any_spliced_deletion("a deletion at a border behind a first piece of one base", |r, at| {
+            r.at_border(at) && r.behind_first(at) && r.first == 0
+        }),
+        any_spliced_deletion("a deletion at a border behind a first piece of insertions and one base", move |r, at| {
+            at == first_border(r) && r.behind_first(at) && r.first > 0
+        }),
+        any_spliced_deletion(
+            "a deletion at a border in front of a last piece of one base and insertions",
+            move |r, at| at == last_border(r) && r.before_last(at) && r.last + 1 < r.mapped,
+        ),
+        any_spliced_deletion("a deletion behind a first piece of insertions and a base of the second", move |r, at| {
+            r.first == first_border(r) && r.behind_first(at)
+        }),
+        any_spliced_deletion("a deletion in front of a base and a last piece of insertions", move |r, at| {
+            r.last + 1 == last_border(r) && r.before_last(at)
+        }),
+        any_spliced_deletion("a deletion with only insertions before it in its own piece", |r, at| {
+            r.borders.iter().any(|border| r.is_inserted(*border, at))
+        }),
+        any_spliced_deletion("a deletion with only insertions behind it in its own piece", |r, at| {
+            r.borders.iter().any(|border| r.is_inserted(at, *border))
+        }),
+        any_spliced_deletion("a deletion at a border between the only two bases", |r, at| {
+            r.at_border(at) && r.behind_first(at) && r.before_last(at)
         }),
     ]
 }

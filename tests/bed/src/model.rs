@@ -69,6 +69,23 @@ pub const SUBSTITUTION: u8 = 0;
 pub const INSERTION: u8 = 1;
 pub const DELETION: u8 = 2;
 
+/// How many of the mapped bases are inserted at the front of a read in order, and how many at its back, before and
+/// behind all that are not; all of them, twice, where no base is left.
+pub fn inserted_at_the_ends(edits: &[EditModel], mapped: u64) -> (u64, u64) {
+    let inserted = || edits.iter().filter(|edit| edit.kind == INSERTION).map(|edit| u64::from(edit.offset));
+    let front = (0..mapped).zip(inserted()).take_while(|(base, offset)| base == offset).count();
+    let last: Vec<u64> = inserted().collect();
+    let back = (0..mapped).rev().zip(last.into_iter().rev()).take_while(|(base, offset)| base == offset).count();
+    (front as u64, back as u64)
+}
+
+/// Leaves out the deletions that have no match or substitution before them, or none behind them.
+pub fn keep_deletions_between_bases(edits: &mut Vec<EditModel>, mapped: u64) {
+    let (front, back) = inserted_at_the_ends(edits, mapped);
+    let between = |offset: u64| front < offset && offset + back < mapped;
+    edits.retain(|edit| edit.kind != DELETION || between(u64::from(edit.offset)));
+}
+
 impl AlignedModel {
     /// Reference positions taken, by the rule of the model's author: one a mapped base, less the insertions,
     /// and one a deletion.
@@ -78,6 +95,12 @@ impl AlignedModel {
 
     pub fn mapped(&self) -> u64 {
         u64::from(self.length) - u64::from(self.clips[0]) - u64::from(self.clips[2])
+    }
+
+    /// The offsets of the first and the last mapped base that is a match or a substitution, where there is one.
+    pub fn aligned_ends(&self) -> Option<(u64, u64)> {
+        let (front, back) = inserted_at_the_ends(&self.edits, self.mapped());
+        (front < self.mapped()).then(|| (front, self.mapped() - 1 - back))
     }
 
     /// The offset behind the last mapped base of each piece. Where a block has been damaged it may be anything, but for
@@ -94,8 +117,8 @@ impl AlignedModel {
             .collect()
     }
 
-    /// Reference positions taken by each piece. An edit is counted where its base lies, a deletion behind the last base
-    /// with the last piece.
+    /// Reference positions taken by each piece. An edit is counted where its base lies, a deletion that damage has put
+    /// behind the last base with the last piece.
     pub fn taken_by_pieces(&self) -> Vec<u64> {
         let ends = self.ends();
         let mut taken = ends.clone();

@@ -62,8 +62,8 @@ fn record_count(rng: &mut Rng) -> u16 {
 
 fn unit_numbers(rng: &mut Rng, record_count: u16) -> UnitNumbers {
     let mut class = 1 + rng.below(Class::ALL.len() as u64) as u8;
-    // Where there can be splices there is more to try.
-    if Class::I.has_splices() && rng.percent(40) {
+    // Where there can be splices and deletions there is more to try.
+    if Class::I.has_splices() && rng.percent(48) {
         class = *rng.pick(&[4, 4, 5]);
     }
     let paired = Class::from_number(class) == Some(Class::HM) || rng.percent(70);
@@ -339,7 +339,7 @@ impl Builder {
         let clips = self.clips(rng, &pieces);
         let soft = (0..clips[0] + clips[2]).map(|_| self.letter(rng)).collect();
         let mapped = length - clips[0] - clips[2];
-        let edits = self.edits(rng, mapped);
+        let edits = self.edits(rng, mapped, &borders(&pieces, clips[0]));
         let rcomp = self.rcomp(rng);
         aligned_model(rcomp, pieces, clips, soft, edits)
     }
@@ -353,7 +353,7 @@ impl Builder {
     fn pieces(&self, rng: &mut Rng, length: u16) -> Vec<u16> {
         // The record's other block may want as many.
         let most = (1 + self.splices_left / 2).min(usize::from(length)).min(usize::from(PIECES_MAX)) as u64;
-        if !self.class.has_splices() || most == 1 || rng.percent(20) {
+        if !self.class.has_splices() || most == 1 || rng.percent(25) {
             return vec![length];
         }
         let number = match rng.below(10) {
@@ -392,11 +392,13 @@ impl Builder {
         [left as u16, hard(), right as u16, hard()]
     }
 
-    fn edits(&self, rng: &mut Rng, mapped: u16) -> Vec<EditModel> {
-        match (self.class, rng.below(20)) {
+    /// The edits of so many mapped bases; at the borders given a piece other than the first begins.
+    fn edits(&self, rng: &mut Rng, mapped: u16, borders: &[u16]) -> Vec<EditModel> {
+        match (self.class, rng.below(24)) {
             (Class::P, _) | (_, 0..=3) => Vec::new(),
+            (Class::I | Class::HM, 20..) => self.about_the_ends(rng, mapped, borders),
             // Few, with gaps; many, hardly any gap; as many as there may be.
-            (_, 4..=13) => {
+            (_, 4..=13 | 20..) => {
                 let most = rng.between(1, 5) as u16;
                 let gap = u64::from(mapped) / 2 + 1;
                 self.walk(rng, mapped, most, gap)
@@ -409,11 +411,12 @@ impl Builder {
         }
     }
 
-    /// Edits at growing offsets, each less than `gap` bases behind the place the last one left.
+    /// Edits at growing offsets, each less than `gap` bases behind the place the last one left. Deletions have a base
+    /// before them and one behind.
     fn walk(&self, rng: &mut Rng, mapped: u16, most: u16, gap: u64) -> Vec<EditModel> {
         let favourite = *rng.pick(&[SUBSTITUTION, INSERTION, DELETION]);
         let mut edits = Vec::new();
-        let mut place = 0;
+        let (mut place, mut inserted) = (0, 0);
         while edits.len() < usize::from(most) {
             place += rng.below(gap);
             let kind = match self.class {
@@ -421,26 +424,99 @@ impl Builder {
                 _ if rng.percent(50) => favourite,
                 _ => rng.below(3) as u8,
             };
-            let last = if kind == DELETION { u64::from(mapped) } else { u64::from(mapped) - 1 };
-            if place > last {
+            if kind == DELETION && inserted == place {
+                // The first base that is not inserted is left in front of it.
+                place += 1;
+            }
+            if place >= u64::from(mapped) {
                 break;
             }
-            let symbol = if kind == DELETION { 0 } else { self.letter(rng) };
-            edits.push(EditModel { offset: place as u16, kind, symbol });
+            edits.push(self.edit(rng, place as u16, kind));
+            inserted += u64::from(kind == INSERTION);
             if kind != DELETION {
                 place += 1;
             }
         }
+        keep_deletions_between_bases(&mut edits, u64::from(mapped));
         edits
     }
+
+    fn edit(&self, rng: &mut Rng, offset: u16, kind: u8) -> EditModel {
+        let symbol = if kind == DELETION { 0 } else { self.letter(rng) };
+        EditModel { offset, kind, symbol }
+    }
+
+    /// Deletions as near to the ends as they may stand: behind the first base that is not inserted and in front of the
+    /// last, with insertions beside them or without.
+    fn about_the_ends(&self, rng: &mut Rng, mapped: u16, borders: &[u16]) -> Vec<EditModel> {
+        let front = inserted_end(rng, borders.first().copied());
+        let back = inserted_end(rng, borders.last().map(|border| mapped - border));
+        let few = |rng: &mut Rng| if rng.percent(60) { 0 } else { rng.between(1, 2) as u16 };
+        let (behind, before) = (few(rng), few(rng));
+        let Some(rest) = mapped.checked_sub(front + 1 + behind + before + 1 + back) else {
+            return self.walk(rng, mapped, EDITS_MAX, 2);
+        };
+        let mut base = || if rng.percent(50) { Some(SUBSTITUTION) } else { None };
+        let (first, last) = (base(), base());
+        let deletions = [rng.between(1, 3) as u16, rng.below(3) as u16];
+        let steps = [
+            (Some(INSERTION), front),
+            (first, 1),
+            (Some(INSERTION), behind),
+            (Some(DELETION), deletions[0]),
+            (None, rest),
+            (Some(DELETION), deletions[1]),
+            (Some(INSERTION), before),
+            (last, 1),
+            (Some(INSERTION), back),
+        ];
+        self.steps(rng, &steps)
+    }
+
+    /// A read step by step: edits of a type, or matches, so many each. Edits too many at its back are left out, and
+    /// matches are in their place.
+    fn steps(&self, rng: &mut Rng, steps: &[(Option<u8>, u16)]) -> Vec<EditModel> {
+        let mut edits = Vec::new();
+        let mut offset = 0;
+        for (kind, count) in steps {
+            for _ in 0..*count {
+                edits.extend(kind.map(|kind| self.edit(rng, offset, kind)));
+                offset += u16::from(*kind != Some(DELETION));
+            }
+        }
+        edits.truncate(usize::from(EDITS_MAX));
+        edits
+    }
+}
+
+/// How many bases at an end are inserted: none mostly, few, or all or all but one of the piece at that end.
+fn inserted_end(rng: &mut Rng, piece: Option<u16>) -> u16 {
+    match (rng.below(6), piece) {
+        (0, Some(bases)) => bases,
+        (1, Some(bases)) => bases - 1,
+        (2, _) => rng.between(1, 3) as u16,
+        _ => 0,
+    }
+}
+
+/// The offsets at which a piece other than the first begins.
+fn borders(pieces: &[u16], left_soft: u16) -> Vec<u16> {
+    let mut end = 0;
+    let ends = pieces[..pieces.len() - 1].iter().map(|length| {
+        end += length;
+        end - left_soft
+    });
+    ends.collect()
 }
 
 /// Now and then a unit has the longest lines there can be.
 #[derive(Clone, Copy)]
 enum Longest {
-    /// Soft clips about one base, and deletions: the longest input line.
+    /// Soft clips about one base a piece, about two where there is one piece, and deletions between these bases: the
+    /// longest input line that is accepted.
     Input,
-    /// A deletion behind each base, hard clips of five digits: the longest E-CIGAR, and so the longest listed line.
+    /// A deletion between any two bases, hard clips of five digits: the longest E-CIGAR that is accepted, and so the
+    /// longest listed line.
     Ecigar,
 }
 
@@ -454,28 +530,35 @@ fn longest(rng: &mut Rng) -> Option<Longest> {
 
 impl Builder {
     fn longest_block(&self, rng: &mut Rng, longest: Longest) -> AlignedModel {
-        let deletion = |offset| EditModel { offset, kind: DELETION, symbol: 0 };
         let length = READ_LENGTH_MAX;
         let pieces = self.longest_pieces(rng, longest);
-        let (clips, edits): (_, Vec<_>) = match (longest, &pieces[..]) {
+        let (clips, edits) = match (longest, &pieces[..]) {
             (Longest::Input, [first, .., last]) => {
                 let (left, right) = (first - 1, last - 1);
-                let at = rng.below(u64::from(length - left - right) + 1) as u16;
-                ([left, 0, right, 1], (0..EDITS_MAX).map(|_| deletion(at)).collect())
+                let at = rng.between(1, u64::from(length - left - right) - 1) as u16;
+                ([left, 0, right, 1], self.deletions_between(rng, at))
             }
             (Longest::Input, _) => {
-                let left = rng.below(u64::from(length)) as u16;
-                let before = rng.below(u64::from(EDITS_MAX) + 1) as u16;
-                (
-                    [left, 0, length - 1 - left, 1],
-                    (0..EDITS_MAX).map(|number| deletion(u16::from(number >= before))).collect(),
-                )
+                let left = rng.below(u64::from(length) - 1) as u16;
+                ([left, 0, length - 2 - left, 1], self.deletions_between(rng, 1))
             }
-            (Longest::Ecigar, _) => ([0, u16::MAX, 0, u16::MAX], (1..=EDITS_MAX).map(deletion).collect()),
+            (Longest::Ecigar, _) => ([0, u16::MAX, 0, u16::MAX], deletions_everywhere(rng, length)),
         };
         let soft = (0..clips[0] + clips[2]).map(|_| rng.below(4) as u8).collect();
         let rcomp = self.rcomp(rng);
         aligned_model(rcomp, pieces, clips, soft, edits)
+    }
+
+    /// As many edits as there may be: deletions between two bases, and now and then these are substituted.
+    fn deletions_between(&self, rng: &mut Rng, at: u16) -> Vec<EditModel> {
+        let mut edits = vec![deletion(at); usize::from(EDITS_MAX)];
+        if rng.percent(30) {
+            edits[0] = self.edit(rng, at - 1, SUBSTITUTION);
+        }
+        if rng.percent(30) {
+            edits[usize::from(EDITS_MAX) - 1] = self.edit(rng, at, SUBSTITUTION);
+        }
+        edits
     }
 
     /// As many pieces as there may be: of one base but for the clipped ones, or of any lengths.
@@ -495,6 +578,18 @@ impl Builder {
         pieces[usize::from(most) - 1] += spare - first;
         pieces
     }
+}
+
+fn deletion(offset: u16) -> EditModel {
+    EditModel { offset, kind: DELETION, symbol: 0 }
+}
+
+/// A deletion between any two bases, and one of them twice for as many edits as there may be: no text is longer for it.
+fn deletions_everywhere(rng: &mut Rng, bases: u16) -> Vec<EditModel> {
+    let twice = rng.between(1, u64::from(bases) - 1) as u16;
+    let mut offsets: Vec<u16> = (1..bases).chain([twice]).collect();
+    offsets.sort();
+    offsets.into_iter().map(deletion).collect()
 }
 
 fn aligned_model(rcomp: u8, pieces: Vec<u16>, clips: [u16; 4], soft: Vec<u8>, edits: Vec<EditModel>) -> AlignedModel {

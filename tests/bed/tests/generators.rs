@@ -48,6 +48,7 @@ fn units_in_order_are_listed_whole() {
 #[test]
 fn lengths_keep_their_limits() {
     let (mut longest_input, mut longest_listed) = (0, 0);
+    let mut longest_text = [0; 2];
     for case in 0..4_000 {
         let (_, files) = valid_case(SEED, case);
         for line in lines_of(&files.unit) {
@@ -56,14 +57,18 @@ fn lengths_keep_their_limits() {
         for line in lines_of(&files.expected()).into_iter().filter(|line| line.starts_with(b"04")) {
             longest_listed = longest_listed.max(line.len());
             for segment in listed(&unhex(line)).segments {
-                assert!(segment.ecigar.len() <= ECIGAR_MAX);
+                let longest = &mut longest_text[usize::from(segment.ecigar.iter().any(|byte| b"/%*".contains(byte)))];
+                *longest = segment.ecigar.len().max(*longest);
             }
             assert!(line.len() > 2 * 28);
         }
     }
     // Nothing is longer, and the cases come as near to both limits as accepted records do.
     assert!(longest_input <= LINE_DIGITS_MAX && longest_listed <= LISTED_LINE_MAX);
-    assert_eq!((longest_input, longest_listed), (20_130, 20_761));
+    assert_eq!((longest_input, longest_listed), (20_130, 20_753));
+    // Of reads in one piece, and over introns.
+    assert!(longest_text[1] <= ECIGAR_MAX);
+    assert_eq!(longest_text, [4_012, 4_165]);
 }
 
 struct ListedSegment {
@@ -93,6 +98,25 @@ fn listed(bytes: &[u8]) -> Listed {
     Listed { indexes: std::array::from_fn(|k| two(3 + 2 * k)), segments }
 }
 
+/// The operations of an E-CIGAR by Table 90, each with its count; a letter has none.
+fn operations(text: &[u8]) -> Vec<(Option<usize>, u8)> {
+    let mut operations = Vec::new();
+    let mut rest = text;
+    while let Some(first) = rest.first() {
+        if matches!(first, b'(' | b'[') {
+            rest = &rest[1..];
+        }
+        let digits = rest.iter().take_while(|byte| byte.is_ascii_digit()).count();
+        let count = (digits > 0).then(|| {
+            assert_ne!(rest[0], b'0', "a count has no leading zero and is not 0");
+            std::str::from_utf8(&rest[..digits]).unwrap().parse().unwrap()
+        });
+        operations.push((count, rest[digits]));
+        rest = &rest[digits + 1..];
+    }
+    operations
+}
+
 /// Walks an E-CIGAR by Table 90 alone and checks it against bases and reference: another way to the same read.
 /// Gives the number of reference positions passed.
 fn walk(model: &UnitModel, segment: &ListedSegment) -> u64 {
@@ -101,34 +125,24 @@ fn walk(model: &UnitModel, segment: &ListedSegment) -> u64 {
         let place = position.checked_sub(u64::from(model.unit.first)).map(|place| place as usize);
         place.and_then(|place| model.reference.get(place)).map_or(b'N', |index| letters.letter(*index).unwrap())
     };
-    let text = &segment.ecigar;
-    let (mut at, mut read, mut taken) = (0, 0, 0u64);
-    while at < text.len() {
-        if matches!(text[at], b'(' | b'[') {
-            at += 1;
-        }
-        let digits = text[at..].iter().take_while(|byte| byte.is_ascii_digit()).count();
-        if digits == 0 {
-            assert_eq!(segment.bases[read], text[at]);
-            (read, taken) = (read + 1, taken + 1);
-            at += 1;
-            continue;
-        }
-        assert_ne!(text[at], b'0', "a count has no leading zero and is not 0");
-        let count: usize = std::str::from_utf8(&text[at..at + digits]).unwrap().parse().unwrap();
-        match text[at + digits] {
-            b'=' => {
+    let (mut read, mut taken) = (0, 0u64);
+    for operation in operations(&segment.ecigar) {
+        match operation {
+            (None, letter) => {
+                assert_eq!(segment.bases[read], letter);
+                (read, taken) = (read + 1, taken + 1);
+            }
+            (Some(count), b'=') => {
                 for step in 0..count {
                     assert_eq!(segment.bases[read + step], reference_letter(segment.position + taken + step as u64));
                 }
                 (read, taken) = (read + count, taken + count as u64);
             }
-            b'+' | b')' => read += count,
-            b'-' | b'/' | b'%' | b'*' => taken += count as u64,
-            b']' => {}
-            other => panic!("no operation: {}", other as char),
+            (Some(count), b'+' | b')') => read += count,
+            (Some(count), b'-' | b'/' | b'%' | b'*') => taken += count as u64,
+            (Some(_), b']') => {}
+            (Some(_), other) => panic!("no operation: {}", other as char),
         }
-        at += digits + 1;
     }
     assert_eq!(read, segment.bases.len(), "the E-CIGAR consumes the read");
     taken
@@ -169,6 +183,26 @@ fn every_ecigar_tells_the_read_it_stands_for() {
         }
     }
     assert!(walked > 4_000, "{walked}");
+}
+
+/// Of what a listed read takes of the reference, splices apart, a deletion is neither first nor last; also in units that
+/// are refused further on.
+#[test]
+fn no_listed_read_begins_or_ends_with_a_deletion() {
+    let mut deletions = 0;
+    for case in 0..4_000 {
+        let listings = [valid_case(SEED, case).1, listing_case(SEED, case)].map(|files| files.expected());
+        for line in listings.iter().flat_map(|listing| lines_of(listing)).filter(|line| line.starts_with(b"04")) {
+            for segment in listed(&unhex(line)).segments {
+                let mut steps = operations(&segment.ecigar);
+                steps.retain(|(count, operation)| count.is_none() || matches!(operation, b'=' | b'-'));
+                let is_deletion = |step: Option<&(Option<usize>, u8)>| matches!(step, Some((Some(_), b'-')));
+                assert!(!is_deletion(steps.first()) && !is_deletion(steps.last()), "case {case}");
+                deletions += steps.iter().filter(|step| is_deletion(Some(step))).count();
+            }
+        }
+    }
+    assert!(deletions > 4_000, "{deletions}");
 }
 
 /// The indexes of an 04 line are the symbols that the model's author gave to the records so far.

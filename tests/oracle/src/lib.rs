@@ -1,9 +1,11 @@
-//! The second decoder: written from document 01, the settled open points (docs/DECISIONS.md) and the standard's tables alone,
-//! so that the product can be compared with something that shares no line with it.
+//! The second decoder: written from document 01, Wishes 1 and 2 of document 02, the settled open points
+//! (docs/DECISIONS.md) and the standard's tables alone, so that the product can be compared with something that shares no
+//! line with it.
 //!
 //! It decodes into owned structures and prints those. Nothing is clever, nothing is lent.
 
 pub mod alphabet;
+pub mod deletions;
 pub mod frame;
 pub mod hex;
 pub mod kind;
@@ -19,6 +21,7 @@ pub mod segment;
 pub mod splices;
 pub mod unit;
 
+pub use deletions::Bare;
 pub use listing::{listing, listing_and_refusal};
 pub use pairing::{pair, Link, Mate, State, Symbols, Taker};
 pub use record::record;

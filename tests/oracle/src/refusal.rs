@@ -1,5 +1,6 @@
 //! The refusal numbers of document 01, in the order of its table. They are named here and nowhere else.
 
+use crate::deletions::Bare;
 use crate::splices::Fault;
 
 #[derive(Clone, Copy, Debug, PartialEq, Eq, PartialOrd, Ord, Hash)]
@@ -40,6 +41,9 @@ pub enum Refusal {
     Room,
     /// One of those above, of the splices of a read: they say more, so that a run can tell what it has reached.
     Splices(Fault),
+    /// The number of `Offset`, of a deletion that has no base before it, or none behind it; what is wrong, and whether
+    /// the read has splices.
+    Deletion { bare: Bare, spliced: bool },
 }
 
 impl Refusal {
@@ -63,6 +67,7 @@ impl Refusal {
             Refusal::LastLine => 16,
             Refusal::Room => 17,
             Refusal::Splices(fault) => fault.refusal().number(),
+            Refusal::Deletion { .. } => Refusal::Offset.number(),
         }
     }
 }

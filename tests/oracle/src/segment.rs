@@ -1,6 +1,7 @@
 //! One block of a record frame: its fields, its bases, its E-CIGAR (Tables 92 to 94, 10.6.1).
 
 use crate::alphabet::{Alphabet, UNKNOWN};
+use crate::deletions::stand_between_bases;
 use crate::frame::Frame;
 use crate::limits::{ECIGAR_MAX, EDITS_MAX, RCOMP_MAX, READ_LENGTH_MAX, SPLICED_RCOMP_MAX};
 use crate::pairing::Taker;
@@ -21,17 +22,17 @@ pub struct Segment {
 }
 
 #[derive(Clone, Copy, Debug, PartialEq, Eq)]
-enum EditKind {
+pub(crate) enum EditKind {
     Substitution,
     Insertion,
     Deletion,
 }
 
 #[derive(Clone, Copy, Debug)]
-struct Edit {
+pub(crate) struct Edit {
     /// Read bases from the first mapped base.
-    offset: usize,
-    kind: EditKind,
+    pub(crate) offset: usize,
+    pub(crate) kind: EditKind,
     /// The base that stands in the read; of no meaning for a deletion.
     letter: u8,
 }
@@ -92,7 +93,8 @@ pub fn unaligned_segment(alphabet: Alphabet, frame: &[u8], offset: usize) -> Res
     Ok((segment, frame.at()))
 }
 
-/// The pieces one after the other, each with 13, then 10 (decision 78); the clips around them.
+/// Where deletions stand (12), once the last edit is read; then the pieces one after the other, each with 13, then 10
+/// (decision 78); the clips around them.
 pub(crate) fn take_aligned(
     unit: &Unit,
     reference: Reference,
@@ -101,6 +103,7 @@ pub(crate) fn take_aligned(
     frame: &mut Frame,
 ) -> Result<Segment, Refusal> {
     let block = read_block(unit, position, taker, frame)?;
+    block.check_deletions()?;
     let clips = &block.clips;
     let mut bases = Vec::with_capacity(block.read_length());
     let mut ecigar = Vec::with_capacity(block.text_room());
@@ -142,9 +145,14 @@ fn read_block(unit: &Unit, position: i64, taker: &mut Taker, frame: &mut Frame) 
     let mut pieces =
         if unit.class.has_splices() { pieces(frame, length, position, taker)? } else { one_piece(position, length) };
     let clips = if unit.class.has_clips() { clips(unit.alphabet, frame, &mut pieces)? } else { Clips::default() };
-    let mapped_length = pieces.iter().map(|piece| piece.mapped_length).sum();
+    let mapped_length = mapped_length(&pieces);
     let edits = if unit.class.has_edits() { edits(unit, frame, mapped_length)? } else { Vec::new() };
     Ok(Block { rcomp, pieces, clips, edits })
+}
+
+/// Mapped bases of the whole read.
+fn mapped_length(pieces: &[Piece]) -> usize {
+    pieces.iter().map(|piece| piece.mapped_length).sum()
 }
 
 fn rcomp(class: Class, frame: &mut Frame) -> Result<u8, Refusal> {
@@ -232,7 +240,7 @@ fn offset(edit: &[u8]) -> usize {
 }
 
 /// The offset comes last in an edit. Gives the least offset of the next one: a deletion takes no read base,
-/// so another edit may stand at its offset, and it may stand behind the last base.
+/// so another edit may stand at its offset, and one behind the last base is refused only once all edits are read.
 fn next_offset(edit: Edit, least: usize, mapped_length: usize) -> Result<usize, Refusal> {
     let (past, next) = match edit.kind {
         EditKind::Deletion => (mapped_length + 1, edit.offset),
@@ -249,6 +257,13 @@ fn next_offset(edit: Edit, least: usize, mapped_length: usize) -> Result<usize, 
 impl Block {
     fn read_length(&self) -> usize {
         self.pieces.iter().map(|piece| usize::from(piece.length)).sum()
+    }
+
+    /// Told once of the whole read, however many deletions are at its ends (document 02, Wish 2).
+    fn check_deletions(&self) -> Result<(), Refusal> {
+        let spliced = self.pieces.len() > 1;
+        let stand = stand_between_bases(&self.edits, mapped_length(&self.pieces));
+        stand.map_err(|bare| Refusal::Deletion { bare, spliced })
     }
 
     /// Room set aside for the text: four characters an edit, ten a piece, and two clips of which the longest is a hard

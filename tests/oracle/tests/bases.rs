@@ -1,7 +1,8 @@
-//! Bases, E-CIGAR and positions: decisions 12 to 16, Table 35, and the limits at their edges.
+//! Bases, E-CIGAR and positions: decisions 12 to 15, Table 35, and the limits at their edges.
 
 mod common;
 use common::*;
+use oracle::Refusal;
 
 fn segment_i(length: u16, clips: [u16; 4], edits: &[(u16, u8, u8)]) -> ListedSegment {
     given(I).with(record(100, &[block_i(length, clips, edits)])).segment()
@@ -74,14 +75,6 @@ fn reading_17_class_n_and_the_letter_minus() {
 }
 
 #[test]
-fn reading_18_deletions_before_the_first_and_after_the_last_base() {
-    let segment = segment_i(3, [0; 4], &[(0, DELETION, 0), (0, DELETION, 0), (3, DELETION, 0)]);
-    assert_eq!((segment.bases.as_str(), segment.ecigar.as_str()), ("GTA", "2-3=1-"));
-    let clipped = segment_i(5, [1, 9, 1, 9], &[(0, DELETION, 0), (3, DELETION, 0), (3, DELETION, 0)]);
-    assert_eq!((clipped.bases.as_str(), clipped.ecigar.as_str()), ("TCGTT", "(1)1-3=2-(1)"));
-}
-
-#[test]
 fn table_35_letter_by_letter() {
     let all: Vec<u8> = (0..16).collect();
     let mut unit = given(U).with(record(0, &[block_u(&all)]));
@@ -132,8 +125,8 @@ fn table_93_runs() {
         (&[(1, d, 0), (1, i, 3), (2, d, 0)], "1=1-1+1-2=", "ATTA"),
         (&[(1, i, 3), (2, s, 0), (3, i, 3)], "1=1+A1+", "ATAT"),
         (&[(1, d, 0), (2, d, 0)], "1=1-1=1-2=", "AGAC"),
-        (&[(0, d, 0), (0, s, 3), (1, d, 0)], "1-T1-3=", "TTAC"),
-        (&[(4, d, 0), (4, d, 0)], "4=2-", "ACGT"),
+        (&[(1, d, 0), (1, s, 3), (2, d, 0)], "1=1-T1-2=", "ATAC"),
+        (&[(3, d, 0), (3, d, 0)], "3=2-1=", "ACGC"),
         (&[(3, i, 2)], "3=1+", "ACGG"),
     ];
     for (edits, ecigar, bases) in cases {
@@ -156,23 +149,30 @@ fn offsets_at_their_edges() {
     let (s, i, d) = (SUBSTITUTION, INSERTION, DELETION);
     // Read length 6, soft clips 1 and 1: the mapped length is 4.
     let clips = [1, 0, 1, 0];
-    for (kind, last) in [(s, 3), (i, 3), (d, 4)] {
-        for offset in [0, 1, last] {
+    for (kind, first, last) in [(s, 0, 3), (i, 0, 3), (d, 1, 3)] {
+        for offset in [first, 1, 2, last] {
             assert_eq!(refused_i(6, clips, &[(offset, kind, 0)]), 0, "type {kind} at {offset}");
         }
         for offset in [last + 1, last + 2, u16::MAX] {
             assert_eq!(refused_i(6, clips, &[(offset, kind, 0)]), 12, "type {kind} at {offset}");
         }
     }
+    // The offset of a deletion may be the mapped length and may be 0: it is the whole read that lacks a base then.
+    let told = |offset| {
+        let unit = given(I).with(record(100, &[block_i(6, clips, &[(offset, d, 0)])]));
+        oracle::listing_and_refusal(&unit.reference_file(), &unit.file()).1
+    };
+    assert!([0, 4].into_iter().all(|offset| matches!(told(offset), Some(Refusal::Deletion { .. }))));
+    assert!([5, 6, u16::MAX].into_iter().all(|offset| told(offset) == Some(Refusal::Offset)));
     for (first, least) in [(s, 3), (i, 3), (d, 2)] {
         for second in [s, i, d] {
             assert_eq!(refused_i(6, clips, &[(2, first, 0), (least, second, 0)]), 0, "{second} after {first}");
             assert_eq!(refused_i(6, clips, &[(2, first, 0), (least - 1, second, 0)]), 12, "{second} after {first}");
         }
     }
-    assert_eq!(refused_i(6, clips, &[(4, d, 0), (4, s, 0)]), 12);
-    assert_eq!(refused_i(6, clips, &[(4, d, 0), (4, d, 0)]), 0);
-    assert_eq!(refused_i(6, clips, &[(3, s, 0), (4, d, 0)]), 0);
+    assert_eq!(refused_i(6, clips, &[(3, d, 0), (3, d, 0)]), 0);
+    assert_eq!(refused_i(6, clips, &[(2, s, 0), (3, d, 0)]), 0);
+    assert_eq!(refused_i(6, clips, &[(3, d, 0), (4, s, 0)]), 12);
 }
 
 #[test]
@@ -225,9 +225,9 @@ fn soft_clips_at_their_edges() {
 
 #[test]
 fn edit_counts_at_their_edges() {
-    let deletions = |count| vec![(0, DELETION, 0); count];
-    assert_eq!(refused_i(1, [0; 4], &deletions(1_000)), 0);
-    assert_eq!(refused_i(1, [0; 4], &deletions(1_001)), 11);
+    let deletions = |count| vec![(1, DELETION, 0); count];
+    assert_eq!(refused_i(2, [0; 4], &deletions(1_000)), 0);
+    assert_eq!(refused_i(2, [0; 4], &deletions(1_001)), 11);
     let substitutions: Vec<_> = (0..1_000).map(|offset| (offset, 2)).collect();
     assert_eq!(given(M).with(record(100, &[block_m(1_000, &substitutions)])).segment().ecigar, "G".repeat(1_000));
     // The count is looked at before the edits, of which none is there.
@@ -266,8 +266,8 @@ fn positions_at_the_edges_of_the_unit() {
     // Soft clips take no reference; an insertion neither; a deletion does.
     assert_eq!(refused(2_099, block_i(5, [2, 0, 2, 0], &[])), 0);
     assert_eq!(refused(2_099, block_i(3, [0; 4], &[(0, INSERTION, 0), (1, INSERTION, 0)])), 0);
-    assert_eq!(refused(2_098, block_i(1, [0; 4], &[(1, DELETION, 0)])), 0);
-    assert_eq!(refused(2_099, block_i(1, [0; 4], &[(1, DELETION, 0)])), 13);
+    assert_eq!(refused(2_097, block_i(2, [0; 4], &[(1, DELETION, 0)])), 0);
+    assert_eq!(refused(2_098, block_i(2, [0; 4], &[(1, DELETION, 0)])), 13);
     // Nothing is taken, but the position has to be in the unit all the same.
     let nothing = || block_i(1, [0; 4], &[(0, INSERTION, 0)]);
     assert_eq!(refused(2_099, nothing()), 0);
@@ -296,17 +296,26 @@ fn class_u_knows_no_unit_region() {
     assert_eq!(unit.segment(), ListedSegment { position: 0, rcomp: 0, bases: "CG".into(), ecigar: "".into() });
 }
 
-/// 1,000 matches with a deletion behind each, between the longest hard clips.
+/// 1,000 matches with a deletion between any two of them, between the longest hard clips. Each base and each of the 999
+/// gaps has two characters, and no edit list has more: the edit that is left over makes no count longer.
 fn longest_block() -> Vec<u8> {
-    let edits: Vec<_> = (1..=1_000).map(|offset| (offset, DELETION, 0)).collect();
+    let edits: Vec<_> = (1..1_000).map(|offset| (offset, DELETION, 0)).collect();
     block_i(1_000, [0, 65_535, 0, 65_535], &edits)
 }
 
 #[test]
 fn the_longest_ecigar() {
     let segment = given(I).with(record(100, &[longest_block()])).segment();
-    assert_eq!(segment.ecigar, format!("[65535]{}[65535]", "1=1-".repeat(1_000)));
-    assert_eq!(segment.ecigar.len(), 4_014);
+    assert_eq!(segment.ecigar, format!("[65535]{}1=[65535]", "1=1-".repeat(999)));
+    assert_eq!(segment.ecigar.len(), 4_012);
+    // The thousandth deletion is refused behind the last base, where it would have two characters; elsewhere it has none.
+    let with = |last| {
+        let edits: Vec<_> = (1..1_000).chain([last]).map(|offset| (offset, DELETION, 0)).collect();
+        given(I).with(record(100, &[block_i(1_000, [0, 65_535, 0, 65_535], &edits)]))
+    };
+    assert_eq!(with(1_000).refusal(), Some((0, 12)));
+    assert_eq!(with(999).segment().ecigar, format!("[65535]{}1=2-1=[65535]", "1=1-".repeat(998)));
+    assert_eq!(with(999).segment().ecigar.len(), 4_012);
 }
 
 /// Of reads without splices.
@@ -316,7 +325,8 @@ fn the_longest_listed_line() {
     let listing = unit.listing();
     assert_eq!(refusal(&listing), None);
     let line = listing.split_inclusive(|byte| *byte == b'\n').nth(1).unwrap();
-    assert_eq!(line.len(), 20_149);
+    // 28 bytes and two segments of 9 + 1,000 + 4,012, two digits each, and the 0A.
+    assert_eq!(line.len(), 20_141);
 }
 
 #[test]

@@ -220,7 +220,7 @@ fn indexes_are_those_after_the_record() {
 // The Order.
 
 /// The faults of a record of class I with two segments, in the Order, each with its number.
-const FAULTS: [(&str, u8); 24] = [
+const FAULTS: [(&str, u8); 25] = [
     ("unit value", 3),
     ("lent reference", 2),
     ("symbol count", 4),
@@ -239,6 +239,7 @@ const FAULTS: [(&str, u8); 24] = [
     ("edit 1 offset", 12),
     ("edit 2 deletion symbol", 11),
     ("edit 2 offset", 12),
+    ("deletion at the front", 12),
     ("first position", 13),
     ("reference byte under a match", 10),
     ("second read length", 8),
@@ -260,7 +261,9 @@ fn faulty(faults: &[usize]) -> Call {
         frame.extend((clip as u16).to_be_bytes());
     }
     frame.extend([0, pick("first soft base", 5, 1) as u8, 2]);
-    frame.extend((pick("first edit count", 1_001, 2) as u16).to_be_bytes());
+    frame.extend((pick("first edit count", 1_001, 3) as u16).to_be_bytes());
+    // A substitution of the first base, or a deletion in front of it.
+    frame.extend([0, 0, pick("deletion at the front", 2, 0) as u8, 0]);
     frame.extend((pick("edit 1 offset", 3, 1) as u16).to_be_bytes());
     frame.extend([pick("edit 1 type", 3, 1) as u8, pick("edit 1 symbol", 5, 4) as u8]);
     frame.extend((pick("edit 2 offset", 1, 2) as u16).to_be_bytes());
@@ -278,8 +281,8 @@ fn faulty(faults: &[usize]) -> Call {
     given.symbols[0] = vec![pick("pair code", 7, 0)];
     // An even value; the second segment lies 1,000 behind the first, or past AU end.
     given.symbols[1] = vec![pick("pair value", 65_536, 2 * pick("second position", 1_000, 50))];
-    // The first segment takes 2,000 and 2,002 by matches: places 1,900 and 1,902 of the reference.
-    given.reference[1_900] = pick("reference byte under a match", 5, 0) as u8;
+    // The first segment takes 2,002 by a match: place 1,902 of the reference.
+    given.reference[1_902] = pick("reference byte under a match", 5, 0) as u8;
     if has("lent reference") {
         given.reference.resize(32_769, 0);
     }
@@ -308,7 +311,7 @@ fn order_without_faults_is_accepted() {
     let (line, state) = faulty(&[]).answer().unwrap();
     assert_eq!(state, State { number: 1, indexes: [1, 1, 0, 0, 0, 0, 0, 0] });
     let segments = &listed(&line)[0].segments;
-    assert_eq!(segments[0].ecigar, "(2)1=1+1-1=(1)");
+    assert_eq!(segments[0].ecigar, "(2)A1+1-1=(1)");
     assert_eq!(segments[1].position, 2_050);
 }
 
@@ -337,17 +340,18 @@ fn order_fields_are_checked_when_complete() {
         ("first soft clips", 16 + more),
         ("first soft base", 18 + more),
         ("first edit count", 21 + more),
-        ("edit 1 type", 25 + more),
-        ("edit 1 symbol", 25 + more),
-        ("edit 1 offset", 25 + more),
-        ("edit 2 deletion symbol", 29 + more),
-        ("edit 2 offset", 29 + more),
-        ("first position", 29 + more),
-        ("reference byte under a match", 29 + more),
-        ("second read length", 31 + more),
-        ("second position", 42 + 2 * more),
+        ("edit 1 type", 29 + more),
+        ("edit 1 symbol", 29 + more),
+        ("edit 1 offset", 29 + more),
+        ("edit 2 deletion symbol", 33 + more),
+        ("edit 2 offset", 33 + more),
+        ("deletion at the front", 33 + more),
+        ("first position", 33 + more),
+        ("reference byte under a match", 33 + more),
+        ("second read length", 35 + more),
+        ("second position", 46 + 2 * more),
     ];
-    let whole_length = 42 + 2 * more;
+    let whole_length = 46 + 2 * more;
     for (name, needed) in complete {
         let fault = FAULTS.iter().position(|fault| fault.0 == name).unwrap();
         let whole = faulty(&[fault]);

@@ -136,10 +136,10 @@ fn a_deletion_at_a_border() {
     // The second piece lies at 103 + 7 = 110 and deletes 110 and 111; its bases are ACG from 112 on. Were the deletions
     // the first piece's, it would read 3=2-5/3= and GTA.
     says(&two_of_three(&[(3, D, 0), (3, D, 0)]), "3=7/2-3=", "ACGACG");
-    // At the mapped length: the last piece's.
-    says(&two_of_three(&[(6, D, 0)]), "3=7/3=1-", "ACGGTA");
-    // At 0: the first's, which then takes 4, to 103: the splice counts 110 - 104 = 6.
-    says(&two_of_three(&[(0, D, 0)]), "1-3=6/3=", "CGTGTA");
+    // In front of the last base of all: the last piece's.
+    says(&two_of_three(&[(5, D, 0)]), "3=7/2=1-1=", "ACGGTC");
+    // Behind the first: the first's, which then takes 4, to 103: the splice counts 110 - 104 = 6.
+    says(&two_of_three(&[(1, D, 0)]), "1=1-2=6/3=", "AGTGTA");
     // One on each side of the last base of the first piece: one before 102, one of 110.
     says(&two_of_three(&[(2, D, 0), (3, D, 0)]), "2=1-1=6/1-3=", "ACTTAC");
     // A deletion, then another edit at the same offset, which is the second piece's first base.
@@ -173,7 +173,7 @@ fn offsets_count_from_the_first_mapped_base() {
         |edits: &[(u16, u8, u8)]| unit(100, block_pieces(7, 2, &[3, 4], [2, 0, 1, 0], edits), &[(0, 0), (1, 14)]);
     says(&with(&[(0, S, 2), (1, S, 3)]), "(2)G9*T2=(1)", "TTGTTAT");
     says(&with(&[(1, D, 0)]), "(2)1=9*1-3=(1)", "TTATACT");
-    says(&with(&[(4, D, 0)]), "(2)1=9*3=1-(1)", "TTAGTAT");
+    says(&with(&[(3, D, 0)]), "(2)1=9*2=1-1=(1)", "TTAGTCT");
     assert_eq!(refused(&with(&[(4, S, 0)])), 12);
 }
 
@@ -467,7 +467,7 @@ fn a_bad_reference_byte_under_a_later_piece() {
 // The Order.
 
 /// The faults of a record of class I with three pieces and a second segment of two, in the Order, each with its number.
-const FAULTS: [(&str, u8); 31] = [
+const FAULTS: [(&str, u8); 32] = [
     ("pair code", 6),
     ("pair value", 7),
     ("read length", 8),
@@ -487,6 +487,7 @@ const FAULTS: [(&str, u8); 31] = [
     ("edit 1 symbol", 10),
     ("edit 1 offset", 12),
     ("edit 2 offset", 12),
+    ("deletion at the front", 12),
     ("place of piece 0", 13),
     ("reference under piece 0", 10),
     ("place of piece 1", 13),
@@ -502,8 +503,9 @@ const FAULTS: [(&str, u8); 31] = [
 ];
 
 /// The unit with these faults and no other. Every fault changes its own field or symbol and leaves the layout as it is.
-/// Piece 0: 1,000 to 1,002, one of 4 read bases clipped. Piece 1 at 1,000 + 4 + 6 = 1,010: 2 bases, one of them
-/// substituted. Piece 2 at 1,020: 3 bases, the last clipped; a deletion in front of it. The mate: 1,100 and 1,110.
+/// Piece 0: 1,000 to 1,002, one of 4 read bases clipped and the next substituted, or a deletion in front of it. Piece 1
+/// at 1,000 + 4 + 6 = 1,010: 2 bases, one of them substituted. Piece 2 at 1,020: 3 bases, the last clipped; a deletion in
+/// front of it. The mate: 1,100 and 1,110.
 fn faulty(faults: &[usize]) -> Given {
     let has = |name: &str| faults.iter().any(|fault| FAULTS[*fault].0 == name);
     let pick = |name: &str, bad: u32, good: u32| if has(name) { bad } else { good };
@@ -520,7 +522,8 @@ fn faulty(faults: &[usize]) -> Given {
         frame.extend(two(clip));
     }
     frame.extend([0, pick("soft base", 5, 1) as u8]);
-    frame.extend(two(pick("edit count", 1_001, 2)));
+    frame.extend(two(pick("edit count", 1_001, 3)));
+    frame.extend([0, 0, pick("deletion at the front", 2, 0) as u8, 0]);
     frame.extend(two(pick("edit 1 offset", 7, 4)));
     frame.extend([pick("edit 1 type", 3, 0) as u8, pick("edit 1 symbol", 5, 4) as u8]);
     frame.extend(two(pick("edit 2 offset", 4, 5)));
@@ -556,7 +559,7 @@ fn faulty(faults: &[usize]) -> Given {
 fn order_without_faults_is_accepted() {
     let listed = faulty(&[]).listed().remove(0);
     assert_eq!(listed.indexes, [4, 2, 0, 2, 0, 0, 0, 0]);
-    assert_eq!(listed.segments[0].ecigar, "(1)3=7*1=N8*1-2=(1)");
+    assert_eq!(listed.segments[0].ecigar, "(1)A2=7*1=N8*1-2=(1)");
     assert_eq!((listed.segments[1].position, listed.segments[1].ecigar.as_str()), (1_100, "1=9/1="));
 }
 
@@ -590,15 +593,16 @@ fn order_fields_are_checked_when_complete() {
         ("left clip", 23),
         ("right clip", 23),
         ("soft base", 25),
-        ("edit 1 offset", 31),
-        ("place of piece 0", 35),
-        ("place of piece 1", 35),
-        ("reference under piece 1", 35),
-        ("place of piece 2", 35),
-        ("second number of pieces", 39),
-        ("second code", 43),
-        ("second clip", 51),
-        ("second place", 53),
+        ("edit 1 offset", 35),
+        ("deletion at the front", 39),
+        ("place of piece 0", 39),
+        ("place of piece 1", 39),
+        ("reference under piece 1", 39),
+        ("place of piece 2", 39),
+        ("second number of pieces", 43),
+        ("second code", 47),
+        ("second clip", 55),
+        ("second place", 57),
     ];
     for (name, needed) in complete {
         let fault = FAULTS.iter().position(|fault| fault.0 == name).unwrap();
@@ -612,7 +616,7 @@ fn order_fields_are_checked_when_complete() {
         }
     }
     let whole = faulty(&[]);
-    assert_eq!(whole.records[0].len(), 53);
+    assert_eq!(whole.records[0].len(), 57);
     for cut in 0..whole.records[0].len() {
         let mut unit = whole.clone();
         unit.records[0].truncate(cut);
@@ -638,13 +642,15 @@ fn order_13_and_10_alternate_over_the_pieces() {
 
 // Limits.
 
-/// Sixteen pieces, a deletion behind each of 1,000 bases, hard clips of five digits, and counts as long as can be: fifteen
-/// of at least nine digits, and no more than three of ten, as four would make 4 * 10^9 + 11 * 10^8 positions. So the
-/// text has 4,000 + 2 * 7 + 12 * 10 + 3 * 11 = 4,167 characters; the limit is what fifteen counts of ten digits would need.
+/// Sixteen pieces, a deletion between any two of 1,000 bases, hard clips of five digits, and counts as long as can be:
+/// fifteen of at least nine digits, and no more than three of ten, as four would make 4 * 10^9 + 11 * 10^8 positions (four
+/// of ten, two of nine and nine of eight would fit, and have eight digits less). So the text has
+/// 2 * 1,000 + 2 * 999 + 2 * 7 + 12 * 10 + 3 * 11 = 4,165 characters; the limit is what fifteen counts of ten digits would
+/// need.
 fn longest_block() -> (Vec<u8>, Vec<u32>) {
     let mut lengths = [62; 16];
     lengths[15] = 70;
-    let edits: Vec<_> = (1..=1_000).map(|offset| (offset, D, 0)).collect();
+    let edits: Vec<_> = (1..1_000).map(|offset| (offset, D, 0)).collect();
     let mut positions = Vec::new();
     // What the pieces take: 62 bases and a deletion in front of each, but not of the first.
     let mut end = 62 + 61;
@@ -672,16 +678,16 @@ fn the_longest_ecigar_and_listed_line() {
     let segments = unit.listed().remove(0).segments;
     assert_eq!(segments[0].ecigar, segments[1].ecigar);
     let text = &segments[0].ecigar;
-    assert_eq!(text.len(), 4_167);
-    assert!(text.len() <= oracle::limits::ECIGAR_MAX && oracle::limits::ECIGAR_MAX == 4_179);
+    assert_eq!(text.len(), 4_165);
+    assert!(text.len() <= oracle::limits::ECIGAR_MAX && oracle::limits::ECIGAR_MAX == 4_177);
     assert!(text.starts_with("[65535]1=1-1=1-"));
-    assert!(text.ends_with("1=1-[65535]"));
+    assert!(text.ends_with("1=1-1=[65535]"));
     assert_eq!(text.matches("1=100000000*1-1=").count(), 12);
     assert_eq!(text.matches("1=1000000000*1-1=").count(), 3);
     let listing = unit.listing();
     let line = listing.split_inclusive(|byte| *byte == b'\n').nth(1).unwrap();
-    // 20,148 digits without splices, and 153 characters more in each of two E-CIGARs.
-    assert_eq!(line.len(), 20_148 + 2 * 2 * 153 + 1);
+    // 20,140 digits without splices, and 153 characters more in each of two E-CIGARs.
+    assert_eq!(line.len(), 20_140 + 2 * 2 * 153 + 1);
     assert!(line.len() <= LISTED_DIGITS + 1);
 }
 

@@ -1,5 +1,6 @@
 //! coverage [--units N] [--resumes N] [--calls N] [--seed S]: what the generators reach, by refusal number, by what is
-//! wrong with splices and by what the units have in them. Fails when something is reached too seldom to be tested.
+//! wrong with splices and deletions and by what the units have in them. Fails when something is reached too seldom to be
+//! tested.
 
 use bed::answers::{ending, resume_refusal, Ending};
 use bed::cases::valid_case;
@@ -114,7 +115,7 @@ fn print_numbers(columns: &[(&str, Counts, Vec<u8>)]) -> Vec<String> {
     seldom
 }
 
-/// What is wrong with the splices of the reads that are refused for them, in units and in record calls.
+/// What is wrong with the reads that are refused for their splices or deletions, in units and in record calls.
 fn print_faults(seed: u64, units: u64, calls: u64) -> Vec<String> {
     let listed = count_faults((0..units).map(|case| {
         let files = listing_case(seed, case);
@@ -122,11 +123,8 @@ fn print_faults(seed: u64, units: u64, calls: u64) -> Vec<String> {
     }));
     let called = count_faults((0..calls).map(|case| record_call(&mut Rng::for_case(seed, case)).expected().err()));
     let mut seldom = Vec::new();
-    let names = faults::names();
-    if !names.is_empty() {
-        println!("\n{:>14}{:>14}  splices refused by", "listing", "record call");
-    }
-    for name in names {
+    println!("\n{:>14}{:>14}  splices and deletions refused by", "listing", "record call");
+    for name in faults::names() {
         let reached = [("listing", &listed), ("record call", &called)]
             .map(|(column, counts)| (column, counts.get(&name).copied().unwrap_or(0)));
         println!("{:>14}{:>14}  {name}", reached[0].1, reached[1].1);
@@ -141,10 +139,8 @@ fn print_faults(seed: u64, units: u64, calls: u64) -> Vec<String> {
 
 fn count_faults(refusals: impl Iterator<Item = Option<Refusal>>) -> BTreeMap<String, u64> {
     let mut counts = BTreeMap::new();
-    for refusal in refusals {
-        if let Some(Refusal::Splices(fault)) = refusal {
-            *counts.entry(faults::name(fault)).or_default() += 1;
-        }
+    for name in refusals.flatten().filter_map(faults::of) {
+        *counts.entry(name).or_default() += 1;
     }
     counts
 }

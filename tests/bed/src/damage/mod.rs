@@ -1,5 +1,6 @@
 //! Damage, at each step from model to file.
 
+mod deletions;
 mod frame;
 mod record;
 mod splices;

@@ -1,6 +1,7 @@
 //! Damage to a unit before it is written down. A kind of damage that does not fit a case says so by `false`, and
 //! another one is tried.
 
+use super::deletions::damage_deletions;
 use super::splices::{damage_splices, has_splices, ON_PIECES};
 use crate::model::*;
 use crate::rng::Rng;
@@ -75,20 +76,33 @@ pub fn damage_record(rng: &mut Rng, model: &mut UnitModel, record: usize) {
     }
 }
 
-/// Where there are splices, mostly damage that is theirs.
+/// One kind of damage out of these, each as often as is said beside it.
+pub fn damage_by(rng: &mut Rng, kinds: &[(u64, OnRecord)], model: &mut UnitModel, record: usize) -> bool {
+    let mut at = rng.below(kinds.iter().map(|(often, _)| often).sum());
+    for (often, damage) in kinds {
+        if at < *often {
+            return damage(rng, model, record);
+        }
+        at -= often;
+    }
+    false
+}
+
+/// Where there are splices, mostly damage that is theirs; where there are none, often deletions at the ends of a read.
 fn kinds(rng: &mut Rng, model: &UnitModel, record: usize) -> &'static [OnRecord] {
     if !model.class().has_splices() {
         return &ON_RECORD;
     }
-    match rng.below(10) {
+    match rng.below(15) {
         0 => &ON_PIECES,
-        1..=7 if has_splices(model, record) => &[damage_splices],
+        1..=8 if has_splices(model, record) => &[damage_splices],
         1 => &ON_PIECES,
+        2..=12 => &[damage_deletions],
         _ => &ON_RECORD,
     }
 }
 
-fn some_aligned<'a>(rng: &mut Rng, model: &'a mut UnitModel, record: usize) -> Option<&'a mut AlignedModel> {
+pub fn some_aligned<'a>(rng: &mut Rng, model: &'a mut UnitModel, record: usize) -> Option<&'a mut AlignedModel> {
     let mut blocks: Vec<_> = model.records[record]
         .blocks
         .iter_mut()
@@ -170,7 +184,7 @@ fn offset_repeated(rng: &mut Rng, model: &mut UnitModel, record: usize) -> bool 
     true
 }
 
-fn offset_at_the_end(rng: &mut Rng, model: &mut UnitModel, record: usize) -> bool {
+pub fn offset_at_the_end(rng: &mut Rng, model: &mut UnitModel, record: usize) -> bool {
     let Some(block) = some_aligned(rng, model, record) else { return false };
     let mapped = block.length.saturating_sub(block.clips[0]).saturating_sub(block.clips[2]);
     let Some(edit) = block.edits.last_mut() else { return false };
@@ -194,7 +208,7 @@ fn position_edges(unit: &UnitNumbers, taken: u64) -> [u32; 8] {
     ]
 }
 
-fn pos_at_an_edge(rng: &mut Rng, model: &mut UnitModel, record: usize) -> bool {
+pub fn pos_at_an_edge(rng: &mut Rng, model: &mut UnitModel, record: usize) -> bool {
     let unit = model.unit.clone();
     let taken = match &model.records[record].blocks[..] {
         [BlockModel::Aligned(block), ..] => block.reach(),
@@ -205,7 +219,7 @@ fn pos_at_an_edge(rng: &mut Rng, model: &mut UnitModel, record: usize) -> bool {
 }
 
 /// Draws the unit's end in until the last position taken lies outside, or is just inside.
-fn last_base_outside(rng: &mut Rng, model: &mut UnitModel, record: usize) -> bool {
+pub fn last_base_outside(rng: &mut Rng, model: &mut UnitModel, record: usize) -> bool {
     let [BlockModel::Aligned(block), ..] = &model.records[record].blocks[..] else { return false };
     let end = u64::from(model.records[record].pos) + block.reach();
     let wanted = end.saturating_sub(1 + rng.below(2));
@@ -242,7 +256,7 @@ pub fn own_symbol(model: &mut UnitModel, record: usize, subsequence: usize) -> O
     }
 }
 
-fn mate_outside(rng: &mut Rng, model: &mut UnitModel, record: usize) -> bool {
+pub fn mate_outside(rng: &mut Rng, model: &mut UnitModel, record: usize) -> bool {
     let [BlockModel::Aligned(first), BlockModel::Aligned(mate)] = &model.records[record].blocks[..] else {
         return false;
     };
@@ -302,21 +316,21 @@ fn some_edit<'a>(
     Some(edits.swap_remove(at))
 }
 
-fn bad_edit_symbol(rng: &mut Rng, model: &mut UnitModel, record: usize) -> bool {
+pub fn bad_edit_symbol(rng: &mut Rng, model: &mut UnitModel, record: usize) -> bool {
     let bad = bad_index(rng, &model.unit);
     let Some(edit) = some_edit(rng, model, record, |kind| kind != DELETION) else { return false };
     edit.symbol = bad;
     true
 }
 
-fn bad_deletion_symbol(rng: &mut Rng, model: &mut UnitModel, record: usize) -> bool {
+pub fn bad_deletion_symbol(rng: &mut Rng, model: &mut UnitModel, record: usize) -> bool {
     let symbol = *rng.pick(&[1, 4, 5, u8::MAX]);
     let Some(edit) = some_edit(rng, model, record, |kind| kind == DELETION) else { return false };
     edit.symbol = symbol;
     true
 }
 
-fn bad_edit_type(rng: &mut Rng, model: &mut UnitModel, record: usize) -> bool {
+pub fn bad_edit_type(rng: &mut Rng, model: &mut UnitModel, record: usize) -> bool {
     let kind = *rng.pick(&[3, 4, u8::MAX]);
     let Some(edit) = some_edit(rng, model, record, |_| true) else { return false };
     edit.kind = kind;
@@ -370,7 +384,7 @@ fn bad_value_then_used_up(rng: &mut Rng, model: &mut UnitModel, record: usize) -
     true
 }
 
-fn another_number_of_blocks(rng: &mut Rng, model: &mut UnitModel, record: usize) -> bool {
+pub fn another_number_of_blocks(rng: &mut Rng, model: &mut UnitModel, record: usize) -> bool {
     let blocks = &mut model.records[record].blocks;
     if rng.percent(50) {
         return blocks.pop().is_some();
@@ -381,7 +395,7 @@ fn another_number_of_blocks(rng: &mut Rng, model: &mut UnitModel, record: usize)
 }
 
 /// A reference byte outside the alphabet where the first segment lies.
-fn bad_reference_under_the_read(rng: &mut Rng, model: &mut UnitModel, record: usize) -> bool {
+pub fn bad_reference_under_the_read(rng: &mut Rng, model: &mut UnitModel, record: usize) -> bool {
     let [BlockModel::Aligned(block), ..] = &model.records[record].blocks[..] else { return false };
     let taken = block.taken_by_pieces().first().copied().unwrap_or(0);
     let position = u64::from(model.records[record].pos) + rng.below(taken.max(1));
@@ -395,7 +409,7 @@ fn bad_reference_under_the_read(rng: &mut Rng, model: &mut UnitModel, record: us
 }
 
 /// Both faults that are looked for after a segment.
-fn outside_over_a_bad_reference(rng: &mut Rng, model: &mut UnitModel, record: usize) -> bool {
+pub fn outside_over_a_bad_reference(rng: &mut Rng, model: &mut UnitModel, record: usize) -> bool {
     let bad = bad_reference_under_the_read(rng, model, record);
     last_base_outside(rng, model, record) && bad
 }

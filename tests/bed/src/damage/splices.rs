@@ -1,6 +1,6 @@
 //! Damage to the splices of a record: the numbers and lengths of its pieces, its clips, the symbols that place it.
 
-use super::record::{bad_index, OnRecord};
+use super::record::{bad_index, damage_by, OnRecord};
 use crate::model::*;
 use crate::rng::Rng;
 use crate::valid::DELTA_MAX;
@@ -14,7 +14,7 @@ pub const ON_PIECES: [OnRecord; 6] =
 const ON_SPLICES: [(u64, OnRecord); 16] = [
     (2, left_clip_reaches_the_first),
     (3, right_clip_reaches_the_last),
-    (5, symbols_used_up),
+    (7, symbols_used_up),
     (13, reserved_code),
     (1, the_other_code),
     (2, distance_too_large),
@@ -22,23 +22,16 @@ const ON_SPLICES: [(u64, OnRecord); 16] = [
     (5, piece_past_all),
     (6, piece_before_the_unit),
     (4, piece_behind_the_unit),
-    (10, piece_ends_outside),
+    (12, piece_ends_outside),
     (5, no_splice),
     (3, negative_splice),
-    (10, bad_reference_under_a_piece),
+    (12, bad_reference_under_a_piece),
     (2, misplaced_behind_a_bad_reference),
     (1, clips_and_pieces),
 ];
 
 pub fn damage_splices(rng: &mut Rng, model: &mut UnitModel, record: usize) -> bool {
-    let mut at = rng.below(ON_SPLICES.iter().map(|(often, _)| often).sum());
-    for (often, damage) in ON_SPLICES {
-        if at < often {
-            return damage(rng, model, record);
-        }
-        at -= often;
-    }
-    false
+    damage_by(rng, &ON_SPLICES, model, record)
 }
 
 pub fn has_splices(model: &UnitModel, record: usize) -> bool {

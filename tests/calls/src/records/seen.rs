@@ -2,7 +2,7 @@
 
 use crate::call::{Call, Outcome};
 use calls::tally::{refused, Tally};
-use oracle::Class;
+use oracle::{Class, Refusal};
 
 /// The refusals of a record call: all but those of resuming.
 const REFUSALS: [u32; 15] = [1, 2, 3, 4, 5, 6, 7, 8, 9, 10, 11, 12, 13, 14, 17];
@@ -16,13 +16,21 @@ pub fn nothing() -> Tally {
     // HM has two template segments.
     let accepted = accepted.filter(|name| *name != self::accepted(Class::HM, 1));
     let spliced = Class::ALL.into_iter().filter(|class| class.has_splices()).map(spliced);
-    Tally::of(REFUSALS.map(refused).into_iter().chain(accepted).chain(spliced).chain([EXACT, SHAPE].map(String::from)))
+    let deletions = [false, true].map(deletion);
+    let others = deletions.into_iter().chain([EXACT, SHAPE].map(String::from));
+    Tally::of(REFUSALS.map(refused).into_iter().chain(accepted).chain(spliced).chain(others))
 }
 
 pub fn add(seen: &mut Tally, call: &Call, outcome: &Outcome) {
     let lent = &call.lent;
     if call.unit_length != 8 || lent.counts.len() != 8 || lent.symbols.len() != 8 || lent.state.len() != 9 {
         seen.count(SHAPE);
+    }
+    if outcome.answer == -i64::from(Refusal::Offset.number()) {
+        // Offsets and deletions at an end have one number; the second decoder tells them apart.
+        if let Err(Refusal::Deletion { spliced, .. }) = lent.expected() {
+            seen.count(deletion(spliced));
+        }
     }
     if outcome.answer < 0 {
         return seen.count(refused(outcome.answer.unsigned_abs() as u32));
@@ -42,6 +50,11 @@ const PIECES: std::ops::Range<usize> = 16..18;
 
 fn spliced(class: Class) -> String {
     format!("class {class:?}, several pieces accepted")
+}
+
+fn deletion(spliced: bool) -> String {
+    let read = if spliced { "several pieces" } else { "one piece" };
+    format!("refusal 12 of a deletion at an end, {read}")
 }
 
 fn accepted(class: Class, segments: u8) -> String {
