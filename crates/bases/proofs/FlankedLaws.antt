@@ -16,7 +16,7 @@ use Rattle.edits.specs.code.Flank.{backed}
 use Rattle.edits.specs.declared.edit.Edit.{Edit}
 use Rattle.edits.proofs.EditLaws.{sound-tail, sound-accepted, next-deletion, next-other, next-least, next-most}
 use Rattle.edits.proofs.PieceLaws.{PieceSound, sound-later}
-use Rattle.edits.proofs.FlankLaws.{or-neither, unseen, none-inserted, some-first, some-none, some-behind, each-same, each-first, each-rest, backed-tail, past-inserted}
+use Rattle.edits.proofs.FlankLaws.{or-neither, unseen, none-inserted, some-first, some-none, some-behind, each-same, each-head, each-tail, backed-tail, past-inserted}
 use Rattle.edits.proofs.FlankPieceLaws.{fronted}
 use Rattle.bases.specs.declared.places.Places.{Places}
 use Rattle.bases.specs.Bases.{R, r, pastEdit}
@@ -88,7 +88,7 @@ first-on until symbols p (e ∷ es) s f b =
     by-test (eqb (e .kind) deletion)
     (λ k.
     let z : e .offset - r p ≡ 0 = omega arith in
-    let g : someBase (e ∷ es) (r p) (e .offset - r p) ≡ true = each-first _ e es (eqb-true _ _ k) f in
+    let g : someBase (e ∷ es) (r p) (e .offset - r p) ≡ true = each-head _ e es (eqb-true _ _ k) f in
     false-true (sym (some-none (e ∷ es) (r p)) ∙ rw z at g))
     (λ k. by-test (eqb (e .kind) insertion)
     (λ j.
@@ -100,7 +100,7 @@ first-on until symbols p (e ∷ es) s f b =
     let tail = sound-tail until symbols (r p) e es s in
     let front : fronted (e .offset + 1) es ≡ true =
     sym (each-same _ _ until symbols (nextOffset e) es tail (λ o l m. past-inserted until symbols e es here kind o (omega arith)))
-    ∙ each-rest (λ o. someBase (e ∷ es) (e .offset) (o - e .offset)) e es (rw q at f) in
+    ∙ each-tail (λ o. someBase (e ∷ es) (e .offset) (o - e .offset)) e es (rw q at f) in
     let some : someBase es (e .offset + 1) (until - (e .offset + 1)) ≡ true = sym (past-inserted until symbols e es here kind until (omega (arith, a .inside))) ∙ rw q at b in
     let w = first-on until symbols (pastEdit e p) es (rw (← past-read e p) at tail) (rw (← read) at front) (rw (← read) at some) in
     (w .0, on-rest until p e es (w .0) (R p) (rw place at (w .1))))
@@ -130,13 +130,13 @@ none-taken mapped symbols next (e ∷ es) s f b =
     let q : next ≡ e .offset = omega (arith, a .order, ltb-false next (e .offset) t) in
     let c = rw q at b in
     by-test (eqb (e .kind) deletion)
-    (λ k. false-true (sym c ∙ each-first (λ o. someBase (e ∷ es) o (mapped - o)) e es (eqb-true _ _ k) f))
+    (λ k. false-true (sym c ∙ each-head (λ o. someBase (e ∷ es) o (mapped - o)) e es (eqb-true _ _ k) f))
     (λ k.
     let n = next-other e (eqb-false (e .kind) deletion k) in
     by-test (eqb (e .kind) insertion)
     (λ j.
     let none : someBase es (e .offset + 1) (mapped - (e .offset + 1)) ≡ false = sym (past-inserted mapped symbols e es later (eqb-true _ _ j) mapped (omega (arith, a .inside))) ∙ c in
-    let rest = none-taken mapped symbols (nextOffset e) es tail (sym (backed-tail mapped symbols e es tail) ∙ each-rest _ e es f) (rw n none) in
+    let rest = none-taken mapped symbols (nextOffset e) es tail (sym (backed-tail mapped symbols e es tail) ∙ each-tail _ e es f) (rw n none) in
     rw (j, rest) (omega arith))
     (λ j.
     let i = eqb-false (e .kind) insertion j in
@@ -154,7 +154,7 @@ last-on mapped symbols p [] s f b =
 last-on mapped symbols p (e ∷ es) s f b =
     let a = sound-accepted mapped symbols (r p) e es s in
     let tail = sound-tail mapped symbols (r p) e es s in
-    let back : backed mapped es ≡ true = sym (backed-tail mapped symbols e es tail) ∙ each-rest _ e es f in
+    let back : backed mapped es ≡ true = sym (backed-tail mapped symbols e es tail) ∙ each-tail _ e es f in
     by-test (someBase es (nextOffset e) (mapped - nextOffset e))
     (λ t.
     let read = past-read e p in
@@ -166,7 +166,7 @@ last-on mapped symbols p (e ∷ es) s f b =
     by-test (eqb (e .kind) deletion)
     (λ k.
     let n = next-deletion e (eqb-true (e .kind) deletion k) in
-    let some : someBase (e ∷ es) (e .offset) (mapped - e .offset) ≡ true = each-first (λ o. someBase (e ∷ es) o (mapped - o)) e es (eqb-true _ _ k) f in
+    let some : someBase (e ∷ es) (e .offset) (mapped - e .offset) ≡ true = each-head (λ o. someBase (e ∷ es) o (mapped - o)) e es (eqb-true _ _ k) f in
     false-true (sym (rw n at t) ∙ sym (some-behind e es (e .offset) (mapped - e .offset) (omega arith)) ∙ some))
     (λ k.
     let n = next-other e (eqb-false (e .kind) deletion k) in

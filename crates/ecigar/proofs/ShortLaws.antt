@@ -19,8 +19,8 @@ use Rattle.edits.specs.declared.edit.Edit.{Edit}
 use Rattle.edits.specs.declared.Clips.{Clips}
 use Rattle.edits.specs.Pieces.{Piece, beginsAt, endOf, EachPiece, cons, Spans}
 use Rattle.edits.proofs.EditLaws.{EditAccepted, sound-accepted, sound-tail, next-deletion, next-other, next-least}
-use Rattle.edits.proofs.FlankLaws.{each-first, each-rest}
-use Rattle.edits.proofs.FlankPieceLaws.{Below}
+use Rattle.edits.proofs.FlankLaws.{each-head, each-tail}
+use Rattle.edits.proofs.FlankPieceLaws.{DeletedBelow}
 use Rattle.edits.proofs.PieceLaws.{PieceSound}
 use Rattle.ecigar.specs.declared.walk.Walk.{Walk}
 use Rattle.ecigar.specs.Table90.{plusSign, minusSign, printAll}
@@ -107,7 +107,7 @@ module _ (alphabet until symbols : ℕ) where
           (λ r. ⊎-elim (λ k. inr (inl (joined .same ∙ k)))
           (λ c. by-test (eqb (e .kind) deletion)
           (λ k. inr (inl (eqb-true _ _ k)))
-          (λ k. inr (inr (each-rest _ e es c))))
+          (λ k. inr (inr (each-tail _ e es c))))
           r)
           clear
 
@@ -146,7 +146,7 @@ module _ (alphabet until symbols : ℕ) where
           (λ d. by-test (eqb (e .offset) (w .next))
           (λ t. false-true (sym j ∙ joins-same w e (λ s. omega arith) (k ∙ sym d) (eqb-true _ _ t)))
           (λ t. let n = eqb-false (e .offset) (w .next) t in omega (arith, a .order)))
-          (λ c. leb-true _ _ (each-first _ e es k c))
+          (λ c. leb-true _ _ (each-head _ e es k c))
           r)
           clear
 
@@ -188,11 +188,11 @@ module _ (alphabet until symbols : ℕ) where
       let inside = rw (← q) at (a .inside) in
       let tail = rw (← q) at (sound-tail until symbols (w .next) e es s) in
       let begun = inr (past-open w e refl) in
-      let rest = each-rest _ e es b in
+      let rest = each-tail _ e es b in
       by-test (joinsRun w e)
       (λ j. joined-short lo w e es o near c a j
       (from-short lo (past w e) es begun inside (omega (arith, a .order, next-least e)) tail rest (joined-clear lo w e es o near c a j)))
-      (λ j. apart-short lo w e es o near c a j (λ k. ltb-true _ _ (each-first _ e es k b))
+      (λ j. apart-short lo w e es o near c a j (λ k. ltb-true _ _ (each-head _ e es k b))
       (from-short (e .offset + 1) (past w e) es begun inside (omega (arith, next-least e)) tail rest (apart-clear lo w e es o near c a j)))
 
   pub piece-short : (start lo : ℕ) (es : List Edit) → start ≤ until → lo ≤ start + 1 → Sound until symbols start es → eachDeletion (λ o. ltb o until) es ≡ true
@@ -204,7 +204,7 @@ module _ (alphabet until symbols : ℕ) where
 
 -- ---- a read in one piece
 
-pub one-short : (alphabet rcomp symbols to : ℕ) (clips : Clips) (p : Piece) → Spans 0 (p ∷ []) to → PieceSound symbols p → Below p → eachDeletion (λ o. leb 1 o) (p .edits) ≡ true → ClipsFit clips
+pub one-short : (alphabet rcomp symbols to : ℕ) (clips : Clips) (p : Piece) → Spans 0 (p ∷ []) to → PieceSound symbols p → DeletedBelow p → eachDeletion (λ o. leb 1 o) (p .edits) ≡ true → ClipsFit clips
     → to ≤ mostRead → length (p .edits) ≤ mostEdits → length (readText alphabet rcomp clips (p ∷ [])) ≤ longestPlain
 unfolding Spans
 one-short alphabet rcomp symbols to clips p s h d c fit short few =
@@ -234,7 +234,7 @@ digits-share n h =
 abbrev pub EndFits : Piece → Type 0
 EndFits p = endOf p ≤ 2 ^ 32
 
-splices-short : (alphabet rcomp symbols end from to : ℕ) (ps : List Piece) → Spans from ps to → EachPiece (PieceSound symbols) ps → Apart end ps → end ≤ 2 ^ 32 → EachPiece EndFits ps → EachPiece Below ps
+splices-short : (alphabet rcomp symbols end from to : ℕ) (ps : List Piece) → Spans from ps to → EachPiece (PieceSound symbols) ps → Apart end ps → end ≤ 2 ^ 32 → EachPiece EndFits ps → EachPiece DeletedBelow ps
     → 1800000000 * length (printAll (splicesFrom alphabet rcomp end ps)) + 6300000000 * from + 2 * end
     ≤ 6300000000 * to + 900000000 * piecesEdits ps + 17800000000 * length ps + 2 * 2 ^ 32
 unfolding Spans piecesEdits splicesFrom printAll Apart
@@ -252,7 +252,7 @@ splices-short alphabet rcomp symbols end from to (p ∷ ps) s (cons _ h a) x n (
     )
 
 pub read-short : (alphabet rcomp symbols to : ℕ) (clips : Clips) (p : Piece) (ps : List Piece) → Spans 0 (p ∷ ps) to → EachPiece (PieceSound symbols) (p ∷ ps) → Apart (endOf p) ps
-    → EachPiece EndFits (p ∷ ps) → EachPiece Below (p ∷ ps) → eachDeletion (λ o. leb 1 o) (p .edits) ≡ true → ClipsFit clips
+    → EachPiece EndFits (p ∷ ps) → EachPiece DeletedBelow (p ∷ ps) → eachDeletion (λ o. leb 1 o) (p .edits) ≡ true → ClipsFit clips
     → length (p ∷ ps) ≤ mostPieces → to ≤ mostRead → piecesEdits (p ∷ ps) ≤ mostEdits → length (readText alphabet rcomp clips (p ∷ ps)) ≤ longestSpliced
 unfolding Spans piecesEdits
 read-short alphabet rcomp symbols to clips p ps s (cons _ h a) x (cons _ g f) (cons _ d b) c fit many short few =

@@ -122,20 +122,20 @@ module _ (f g : ℕ → Bool) where
       (λ k. rw (k, each-weaker es h (rw k at q)) refl)
 
 -- of the first edit, and of those behind it
-pub each-first : (f : ℕ → Bool) (e : Edit) (es : List Edit) → e .kind ≡ deletion → eachDeletion f (e ∷ es) ≡ true → f (e .offset) ≡ true
+pub each-head : (f : ℕ → Bool) (e : Edit) (es : List Edit) → e .kind ≡ deletion → eachDeletion f (e ∷ es) ≡ true → f (e .offset) ≡ true
 unfolding eachDeletion
-each-first f e es k q = and-both (f (e .offset)) (eachDeletion f es) (rw (eq-eqb _ _ k) at q) .0
+each-head f e es k q = and-both (f (e .offset)) (eachDeletion f es) (rw (eq-eqb _ _ k) at q) .0
 
-pub each-rest : (f : ℕ → Bool) (e : Edit) (es : List Edit) → eachDeletion f (e ∷ es) ≡ true → eachDeletion f es ≡ true
+pub each-tail : (f : ℕ → Bool) (e : Edit) (es : List Edit) → eachDeletion f (e ∷ es) ≡ true → eachDeletion f es ≡ true
 unfolding eachDeletion
-each-rest f e es q = and-both (cond (eqb (e .kind) deletion) (f (e .offset)) true) (eachDeletion f es) q .1
+each-tail f e es q = and-both (cond (eqb (e .kind) deletion) (f (e .offset)) true) (eachDeletion f es) q .1
 
 -- of one that stands somewhere among them
 pub each-holds : (f : ℕ → Bool) (o : ℕ) (es : List Edit) → eachDeletion f es ≡ true → DeletionAt o es → f o ≡ true
 unfolding DeletionAt
 each-holds f o [] q d = absurd d
 each-holds f o (e ∷ es) q d =
-    ⊎-elim (λ w. rw (← w .1) (each-first f e es (w .0) q)) (λ w. each-holds f o es (each-rest f e es q) w) d
+    ⊎-elim (λ w. rw (← w .1) (each-head f e es (w .0) q)) (λ w. each-holds f o es (each-tail f e es q) w) d
 
 -- where every edit is a substitution there is none
 pub each-letters : (f : ℕ → Bool) (class alphabet : ℕ) (frame : List ℕ) (k at : ℕ) → substitutesOnly class ≡ true → eachDeletion f (editsAt class alphabet frame k at) ≡ true

@@ -16,7 +16,7 @@ use Rattle.edits.specs.code.Flank.{backed}
 use Rattle.edits.specs.declared.edit.Edit.{Edit}
 use Rattle.edits.proofs.EditLaws.{sound-tail, sound-accepted}
 use Rattle.edits.proofs.PieceLaws.{sound-later, sound-before, sound-behind}
-use Rattle.edits.proofs.FlankLaws.{and-both, or-neither, none-inserted, some-none, each-same, each-weaker, each-first, each-rest, backed-tail}
+use Rattle.edits.proofs.FlankLaws.{and-both, or-neither, none-inserted, some-none, each-same, each-weaker, each-head, each-tail, backed-tail}
 
 -- ---- a part of the edits
 
@@ -47,7 +47,7 @@ module _ (until : ℕ) where
   each-behind : (f : ℕ → Bool) (es : List Edit) → eachDeletion f es ≡ true → eachDeletion f (editsBehind until es) ≡ true
   unfolding editsBehind
   each-behind f [] q = q
-  each-behind f (e ∷ es) q = by-test (ltb (e .offset) until) (λ t. rw t (each-behind f es (each-rest f e es q))) (λ t. rw t q)
+  each-behind f (e ∷ es) q = by-test (ltb (e .offset) until) (λ t. rw t (each-behind f es (each-tail f e es q))) (λ t. rw t q)
 
   -- those before an offset stand before it
   before-below : (es : List Edit) → eachDeletion (λ o. ltb o until) (editsBefore until es) ≡ true
@@ -80,7 +80,7 @@ module _ (until : ℕ) where
     backed-behind next (e ∷ es) s q =
         let t = sound-tail mapped symbols next e es s in
         by-test (ltb (e .offset) until)
-        (λ b. rw b (backed-behind (nextOffset e) es t (sym (backed-tail mapped symbols e es t) ∙ each-rest _ e es q)))
+        (λ b. rw b (backed-behind (nextOffset e) es t (sym (backed-tail mapped symbols e es t) ∙ each-tail _ e es q)))
         (λ b. rw b q)
 
 -- ---- the bases before each deletion
@@ -136,11 +136,11 @@ pieces-uninserted mapped start i es (n ∷ m ∷ ns) (p ∷ ps) q =
     (pieces-uninserted mapped (start + n) i (editsBehind (start + n) es) (m ∷ ns) ps (behind-uninserted (start + n) i es q))
 
 -- each deletion of a piece stands before its end
-abbrev pub Below : Piece → Type 0
-Below p = eachDeletion (λ o. ltb o (p .until)) (p .edits) ≡ true
+abbrev pub DeletedBelow : Piece → Type 0
+DeletedBelow p = eachDeletion (λ o. ltb o (p .until)) (p .edits) ≡ true
 
 pub pieces-below : (mapped start : ℕ) (es : List Edit) (lengths : List ℕ) (positions : List SignedPosition) → eachDeletion (λ o. ltb o mapped) es ≡ true
-    → EachPiece Below (piecesFrom mapped start es lengths positions)
+    → EachPiece DeletedBelow (piecesFrom mapped start es lengths positions)
 unfolding piecesFrom
 pieces-below mapped start es [] ps q = nil
 pieces-below mapped start es (n ∷ ns) [] q = nil

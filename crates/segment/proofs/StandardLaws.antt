@@ -25,7 +25,7 @@ use Rattle.edits.specs.Pieces.{SignedPosition, straight, positionOf, Piece, beg
 use Rattle.edits.proofs.EditLaws.{length-edits}
 use Rattle.edits.proofs.PieceLaws.{PieceSound}
 use Rattle.edits.proofs.FlankLaws.{and-both, some-base, each-holds}
-use Rattle.edits.proofs.FlankPieceLaws.{fronted, Below, flanked-front, flanked-back, flanked-least, flanked-below, pieces-uninserted, pieces-below, first-least, first-fronted, last-backed}
+use Rattle.edits.proofs.FlankPieceLaws.{fronted, DeletedBelow, flanked-front, flanked-back, flanked-least, flanked-below, pieces-uninserted, pieces-below, first-least, first-fronted, last-backed}
 use Rattle.edits.specs.code.Flank.{backed}
 use Rattle.splices.specs.code.Mapping.{positionsFrom}
 use Rattle.splices.specs.code.Walk.{lengthsIn, firstMapping, piecesIn}
@@ -363,7 +363,7 @@ module _ (u : Unit) (reference symbols frame : List ℕ) (q : Placed) (a : Segme
   unfolding piecesIn
   few-pieces = omega (arith, a .pieced .most, length-wordsAt (q .splices .count) frame (q .splices .«lengths_at»), clipped-length left lengths, pieces-few (mappedIn q) 0 edits (lessFirst left lengths) positions)
 
-  all-below : EachPiece Below pieces
+  all-below : EachPiece DeletedBelow pieces
   unfolding piecesIn
   all-below = pieces-below (mappedIn q) 0 edits (lessFirst left lengths) positions (flanked-below (mappedIn q) edits (a .flanks))
 
