@@ -89,7 +89,8 @@ enum lampbuckle_refusal {
     LAMPBUCKLE_SYMBOL_OUT = 10,   /* a symbol outside the alphabet, or such a reference byte under a match */
     LAMPBUCKLE_FIELD_OUT = 11,    /* rcomp (0 or 1; in classes I and HM 0 to 2), edit type, edit count or deletion symbol outside its
                                      values */
-    LAMPBUCKLE_OFFSET_OUT = 12,   /* offset out of order or outside the read */
+    LAMPBUCKLE_OFFSET_OUT = 12,   /* offset out of order or outside the read; a deletion with no match or substitution before it in its
+                                     read, or none behind it */
     LAMPBUCKLE_POSITION_OUT = 13, /* a position outside the unit, that of a piece too; a splice that would count 0 or less; pos not 0
                                      in class U */
     LAMPBUCKLE_MISSING = 14,      /* a state that the unit does not have, or numbers of another shape; the caller's own, for lines that
@@ -134,7 +135,8 @@ int64_t lampbuckle_reference_line(const uint8_t *line, size_t line_length, uint8
 
 /*
  * Lists the next record: one record line in, one 04 line out. In classes I and HM each aligned block has its pieces behind rcomp: their
- * number (a byte, 1 to 16) and their lengths (two bytes each), which add up to the read length. An E-CIGAR has at most 4179 characters.
+ * number (a byte, 1 to 16) and their lengths (two bytes each), which add up to the read length. A deletion stands between bases of its
+ * read that match or are substituted. An E-CIGAR has at most 4165 characters, of a read in one piece at most 4012.
  * @param unit, unit_length            LAMPBUCKLE_UNIT numbers, as a unit line gave them
  * @param reference, reference_length  the reference's bases, as many as the reference lines gave: no more than LAMPBUCKLE_REFERENCE
  * @param symbols, symbols_length      LAMPBUCKLE_TABLE numbers, as the pair lines gave them

@@ -10,6 +10,7 @@
 -- I, HM: soft-clipped bases, left then right           fromSoft, Symbols.symbolRun           10
 -- all but P: edit count u16                            fromEdits, Checked.countAt            11
 -- the edits                                            editsTallied, Check.editsRefusal      11, 10, 12, edit by edit
+-- no field, but all edits together                     editsTallied, Flanks.flankRefusal     12, of a deletion with no match or substitution before it, or none behind it
 -- then, in Segment.placed: 13 (Place), 10 of the reference (bases)
 -- Assumes nothing.
 use Prim.Native.Nat.{ℕ, _+_, _*_}

@@ -2,7 +2,7 @@
 -- Assumes nothing.
 use Prim.Native.Nat.{ℕ, zero, suc, _+_, _-_, _<_, _≤_}
 use mathlib.Core.Path.{_≡_, refl, sym, ap, _∙_}
-use mathlib.Core.Logic.{⊎-elim}
+use mathlib.Core.Logic.{inl, inr, ⊎-elim}
 use mathlib.Core.Bool.{Bool, true, false, cond, _&&_, _||_}
 use mathlib.Core.List.{List, [], _∷_}
 use native.Mathlib.Omega.{arith}
@@ -90,6 +90,17 @@ some-base es from (suc n) q =
     (λ t. let r = some-base es (from + 1) n (rw t at q) in (r .0, (omega (arith, r .1 .0), (omega (arith, r .1 .1 .0), r .1 .1 .1))))
     (λ t. (from, (omega arith, (omega arith, t))))
 
+-- and any that is not inserted is one
+pub some-of : (es : List Edit) (from n i : ℕ) → from ≤ i → i < from + n → insertedAt i es ≡ false → someBase es from n ≡ true
+unfolding someBase
+some-of es from zero i h l q = absurd (omega arith)
+some-of es from (suc n) i h l q =
+    by-test (insertedAt from es)
+    (λ t. by-test (eqb from i)
+    (λ z. false-true (sym q ∙ rw (← eqb-true from i z) t))
+    (λ z. rw (t, some-of es (from + 1) n i (omega (arith, eqb-false from i z)) (omega arith) q) refl))
+    (λ t. rw t refl)
+
 -- ---- each deletion
 
 module _ (f g : ℕ → Bool) where
@@ -136,6 +147,24 @@ unfolding DeletionAt
 each-holds f o [] q d = absurd d
 each-holds f o (e ∷ es) q d =
     ⊎-elim (λ w. rw (← w .1) (each-head f e es (w .0) q)) (λ w. each-holds f o es (each-tail f e es q) w) d
+
+pub each-of : (f : ℕ → Bool) (es : List Edit) → ((o : ℕ) → DeletionAt o es → f o ≡ true) → eachDeletion f es ≡ true
+unfolding eachDeletion DeletionAt
+each-of f [] h = refl
+each-of f (e ∷ es) h =
+    let rest = each-of f es (λ o d. h o (inr d)) in
+    by-test (eqb (e .kind) deletion) (λ k. rw (k, h (e .offset) (inl (eqb-true _ _ k, refl)), rest) refl) (λ k. rw (k, rest) refl)
+
+-- no other read is refused: where each deletion has a base before it that is not inserted, and one from it on, all are flanked
+pub flanked-of : (mapped : ℕ) (es : List Edit)
+    → ((o : ℕ) → DeletionAt o es → ((i : ℕ) × ((i < o) × (insertedAt i es ≡ false))) × ((i : ℕ) × ((o ≤ i) × ((i < mapped) × (insertedAt i es ≡ false)))))
+    → allFlanked mapped es ≡ true
+flanked-of mapped es h =
+    each-of (flanked mapped es) es
+    (λ o d.
+    let a = h o d .0 in
+    let b = h o d .1 in
+    rw (some-of es 0 o (a .0) (omega arith) (omega (arith, a .1 .0)) (a .1 .1), some-of es o (mapped - o) (b .0) (b .1 .0) (omega (arith, b .1 .0, b .1 .1 .0)) (b .1 .1 .1)) refl)
 
 -- where every edit is a substitution there is none
 pub each-letters : (f : ℕ → Bool) (class alphabet : ℕ) (frame : List ℕ) (k at : ℕ) → substitutesOnly class ≡ true → eachDeletion f (editsAt class alphabet frame k at) ≡ true

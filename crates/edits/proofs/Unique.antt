@@ -6,12 +6,14 @@ use mathlib.Core.List.{List}
 use Prim.Native.Nat.{ℕ}
 use Rattle.frame.proofs.Unique.{once}
 use Rattle.edits.specs.Lengths.{noClips, softBases}
+use Rattle.edits.specs.code.Flank.{flankPast, flankEnd}
 use Rattle.edits.specs.code.Runs.{runOf, substitutesOnly}
 use Rattle.edits.specs.Edits.{widthOf, editAt, nextOffset, editRefusal}
 use Rattle.edits.specs.declared.Clips.{Clips}
 use Rattle.edits.specs.declared.Block.{Block}
 use Rattle.edits.specs.declared.Run.{Run}
 use Rattle.edits.specs.declared.edit.Edit.{Edit}
+use Rattle.edits.specs.declared.flank.Flank.{Flank}
 
 pub none-once : {x y : Clips} → x ≡ noClips → y ≡ noClips → x ≡ y
 none-once p q = once p q
@@ -36,3 +38,9 @@ next-offset-once e p q = once p q
 
 pub edit-refusal-once : (mapped symbols next : ℕ) (e : Edit) {x y : ℕ} → x ≡ editRefusal mapped symbols next e → y ≡ editRefusal mapped symbols next e → x ≡ y
 edit-refusal-once mapped symbols next e p q = once p q
+
+pub past-once : (f : Flank) (next : ℕ) (e : Edit) {x y : Flank} → x ≡ flankPast f next e → y ≡ flankPast f next e → x ≡ y
+past-once f next e p q = once p q
+
+pub flank-refusal-once : (f : Flank) (next mapped : ℕ) {x y : ℕ} → x ≡ flankEnd f next mapped → y ≡ flankEnd f next mapped → x ≡ y
+flank-refusal-once f next mapped p q = once p q

@@ -144,7 +144,7 @@ pub fn refusal_of(e: Edit, next: u32, mapped: u32, symbols: u32) -> u32
     refusal::FINE
 }
 
-// The same of a deletion, which brings no symbol and may stand behind the last base.
+// The same of a deletion, which brings no symbol, and whose offset may be the mapped length as far as this edit alone goes: whether it has a base behind it is told behind the last edit (flank.rt).
 fn deletion_refusal(symbol: u8, offset: u32, next: u32, mapped: u32) -> u32
     ensures { λ r. ⌜ r ≡ deletionRefusal mapped next symbol offset ⌝ }
 {

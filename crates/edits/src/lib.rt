@@ -1,4 +1,4 @@
-// What a block of a record holds: a segment's length, clips and edits, and where they stand in the frame.
+// What a block of a record holds: a segment's length, clips and edits, and where they stand in the frame; where its deletions may stand.
 pub mod edit;
 pub mod flank;
 pub mod piece;

@@ -57,7 +57,7 @@ symbolOut = 10
 abbrev pub fieldOut : ℕ
 fieldOut = 11
 
--- offset out of order or outside the read
+-- offset out of order or outside the read; a deletion with no match or substitution before it, or none behind it (document 02, Wish 2)
 abbrev pub offsetOut : ℕ
 offsetOut = 12
 

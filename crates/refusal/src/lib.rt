@@ -39,7 +39,7 @@ pub const SYMBOL_OUT: u32 = 10;
 // Rcomp, edit type, edit count or deletion symbol outside its values.
 pub const FIELD_OUT: u32 = 11;
 
-// Offset out of order or outside the read.
+// Offset out of order or outside the read; a deletion with no match or substitution before it, or none behind it.
 pub const OFFSET_OUT: u32 = 12;
 
 // A position outside the unit, or pos not 0 in class U.

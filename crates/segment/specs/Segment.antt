@@ -59,7 +59,7 @@ placement u symbols frame position a = record { block = a .block; splices = a .s
 abbrev pub placedSegment : Unit → (symbols frame : List ℕ) (position : ℕ) → AlignedBlock → Segment
 placedSegment u symbols frame position a = Aligned (placement u symbols frame position a)
 
--- after each aligned segment, piece by piece, 13, then 10 for the reference
+-- after each aligned segment, whose deletions are all flanked by now (12), piece by piece, 13, then 10 for the reference
 unfoldable pub placed : Unit → (reference symbols frame : List ℕ) (position : ℕ) → AlignedBlock → SegmentRead
 placed u reference symbols frame position a =
     unlessRefused (piecesRefusal u reference 0 (blockPieces u symbols frame position a)) (Whole (placedSegment u symbols frame position a) (a .next))

@@ -1,7 +1,9 @@
 //! compare-records [--calls N] [--seed S]: makes random record calls of the proved code through the C boundary and compares
-//! the answer, the state, the output and all memory beside them with the second decoder. Document 01's small examples are run first.
+//! the answer, the state, the output and all memory beside them with the second decoder. Document 01's small examples and
+//! the longest E-CIGARs are run first.
 
 mod call;
+mod longest;
 mod second;
 mod seen;
 mod vectors;
@@ -18,6 +20,11 @@ fn main() -> ExitCode {
         return ExitCode::FAILURE;
     }
     println!("document 01's examples 1 to 13 are answered as it says");
+    if !longest::are_listed() {
+        println!("the longest E-CIGARs, of 4,012 and 4,165 characters, are not listed");
+        return ExitCode::FAILURE;
+    }
+    println!("the longest E-CIGARs, of 4,012 and 4,165 characters, are listed");
     calls::compare::<Call>("compare-records", "record", CALLS)
 }
 
