@@ -1,7 +1,7 @@
 -- The laws of a read whose deletions are flanked: each base that is not inserted lies on a position, the first of a piece on the one where the piece begins, and the last on the one where it ends.
 -- Assumes nothing.
 use Prim.Native.Nat.{ℕ, _+_, _-_, _<_, _≤_}
-use mathlib.Core.Path.{_≡_, refl, sym, ap, _∙_}
+use mathlib.Core.Path.{_≡_, refl, sym, _∙_}
 use mathlib.Core.Logic.{_⊎_, inl, inr, ⊎-elim}
 use mathlib.Core.Bool.{true, false, _&&_}
 use mathlib.Core.List.{List, [], _∷_}
@@ -9,7 +9,7 @@ use native.Mathlib.Omega.{arith}
 use borrow.Author.Tests.{ltb-true, ltb-false, eqb-true, eqb-false, eq-eqb}
 use lib.Dec.{ltb, eqb}
 use Rattle.frame.proofs.Tests.{by-test, false-true}
-use Rattle.edits.specs.Edits.{substitution, insertion, deletion, nextOffset, Sound, takenBy, takenFrom}
+use Rattle.edits.specs.Edits.{insertion, deletion, nextOffset, Sound, takenBy, takenFrom}
 use Rattle.edits.specs.Flanks.{insertedAt, someBase, hasBase}
 use Rattle.edits.specs.Pieces.{Piece, beginsAt, endOf, EachPiece, nil, cons, OfLast, Spans}
 use Rattle.edits.specs.code.Flank.{backed}

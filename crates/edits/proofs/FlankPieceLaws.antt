@@ -1,8 +1,8 @@
 -- The laws of flanked deletions over the pieces of a read: what the whole read's edits say of each piece's own.
 -- Assumes nothing.
 use Prim.Native.Nat.{ℕ, zero, suc, _+_, _-_, _<_, _≤_}
-use mathlib.Core.Path.{_≡_, refl, sym, ap, _∙_}
-use mathlib.Core.Bool.{Bool, true, false, cond, _&&_, _||_}
+use mathlib.Core.Path.{_≡_, refl, sym, _∙_}
+use mathlib.Core.Bool.{Bool, true, false, cond, _&&_}
 use mathlib.Core.List.{List, [], _∷_}
 use native.Mathlib.Omega.{arith}
 use borrow.Author.Tests.{le-leb, ltb-false, eqb-true, eqb-false}
@@ -14,9 +14,9 @@ use Rattle.edits.specs.Flanks.{insertedAt, someBase, flanked, eachDeleti
 use Rattle.edits.specs.Pieces.{SignedPosition, editsBefore, editsBehind, Piece, piecesFrom, EachPiece, nil, cons, OfFirst, OfLast}
 use Rattle.edits.specs.code.Flank.{backed}
 use Rattle.edits.specs.declared.edit.Edit.{Edit}
-use Rattle.edits.proofs.EditLaws.{sound-tail, sound-accepted}
+use Rattle.edits.proofs.EditLaws.{sound-tail}
 use Rattle.edits.proofs.PieceLaws.{sound-later, sound-before, sound-behind}
-use Rattle.edits.proofs.FlankLaws.{and-both, or-neither, none-inserted, some-none, each-same, each-weaker, each-head, each-tail, backed-tail}
+use Rattle.edits.proofs.FlankLaws.{and-both, or-neither, none-inserted, some-none, each-same, each-weaker, each-tail, backed-tail}
 
 -- ---- a part of the edits
 

@@ -2,13 +2,13 @@
 -- What is kept from edit to edit to say whether each deletion is flanked: `flank-on` and `flank-end` (proofs/FlankLaws) show that it comes to `flankRefusal`.
 -- Assumes nothing.
 use Prim.Native.Nat.{ℕ, _-_}
-use mathlib.Core.Bool.{Bool, true, false, cond, _&&_}
+use mathlib.Core.Bool.{Bool, false, cond, _&&_}
 use mathlib.Core.List.{List}
 use lib.Dec.{ltb, eqb}
 use Rattle.refusal.specs.Numbers.{fine, offsetOut}
 use Rattle.frame.specs.Steps.{unless}
 use Rattle.edits.specs.Edits.{insertion, deletion}
-use Rattle.edits.specs.Flanks.{someBase, flanked, eachDeletion}
+use Rattle.edits.specs.Flanks.{someBase, eachDeletion}
 use Rattle.edits.specs.declared.edit.Edit.{Edit}
 use Rattle.edits.specs.declared.flank.Flank.{Flank}
 use Rattle.edits.specs.declared.flank.Flank.the-variants.{Before, Based, Open, Bare}

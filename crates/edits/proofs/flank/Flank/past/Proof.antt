@@ -1,5 +1,4 @@
 -- `edits::flank::Flank::past` meets its contract: whether a match stands before the edit picks the case. Assumes nothing.
-use mathlib.Core.Path.{_∙_}
 use borrow.Author.Tests.{le-ltb, lt-ltb}
 use borrow.Author.Needs.{needs}
 use Rattle.edits.specs.code.Flank.{flankPast}
