@@ -6,7 +6,7 @@ use mathlib.Core.Logic.{_⊎_, inl, inr, ⊎-elim}
 use mathlib.Core.Bool.{true, false, _&&_}
 use mathlib.Core.List.{List, [], _∷_}
 use native.Mathlib.Omega.{arith}
-use borrow.Author.Tests.{ltb-true, ltb-false, eqb-true, eqb-false, eq-eqb}
+use borrow.Author.Tests.{ltb-true, ltb-false, eqb-true, eqb-false, eq-eqb, ne-eqb}
 use lib.Dec.{ltb, eqb}
 use Rattle.frame.proofs.Tests.{by-test, false-true}
 use Rattle.edits.specs.Edits.{insertion, deletion, nextOffset, Sound, takenBy, takenFrom}
@@ -23,6 +23,7 @@ use Rattle.bases.specs.Bases.{R, r, pastEdit}
 use Rattle.bases.specs.Spliced.{pieceBeginning}
 use Rattle.bases.specs.Alignment.{Stands, UnderMatch, MatchedIn, Substitutes, UnderLetter, SubstitutedIn, LiesOn}
 use Rattle.bases.proofs.BasesLaws.{past-read, past-reference}
+use Rattle.bases.proofs.SplicedLaws.{spans-order, matched-below, matched-place}
 
 -- ---- in one piece
 
@@ -184,7 +185,52 @@ last-on mapped symbols p (e ∷ es) s f b =
     let i = eqb-false (e .kind) insertion j in
     (e .offset, on-letter mapped p e es (e .offset) _ record { kind = omega (arith, a .kind); base = refl; at = rw j (omega (arith, none)) }))))
 
+-- ---- where a base lies that is substituted
+
+-- its position is one of those that the edits take
+letter-place : (mapped : ℕ) (p : Places) (es : List Edit) (i position : ℕ) → UnderLetter p es i position → (R p ≤ position) × (position < R p + takenFrom mapped (r p) es)
+unfolding UnderLetter takenFrom
+letter-place mapped p [] i position u = absurd u
+letter-place mapped p (e ∷ es) i position u =
+    ⊎-elim (λ w. (omega (arith, w .at), rw (ne-eqb (e .kind) insertion (λ k. omega (arith, w .kind))) (omega (arith, w .at))))
+    (λ w.
+    let l = rw (past-read e p, past-reference e p) at (letter-place mapped (pastEdit e p) es i position w) in
+    (omega (arith, l .0), omega (arith, l .1)))
+    u
+
+-- and it is one of the mapped bases
+letter-below : (mapped symbols : ℕ) (p : Places) (es : List Edit) (i position : ℕ) → Sound mapped symbols (r p) es → UnderLetter p es i position → i < mapped
+unfolding UnderLetter
+letter-below mapped symbols p [] i position s u = absurd u
+letter-below mapped symbols p (e ∷ es) i position s u =
+    let a = sound-accepted mapped symbols (r p) e es s in
+    ⊎-elim (λ w. omega (arith, w .base, a .inside, next-other e (λ d. omega (arith, w .kind))))
+    (λ w. letter-below mapped symbols (pastEdit e p) es i position (rw (← past-read e p) at (sound-tail mapped symbols (r p) e es s)) w)
+    u
+
 -- ---- in a read
+
+-- what holds of every position from where a piece begins to behind its end holds of one that a base lies on
+substituted-place : {P : ℕ → Type 0} {ps : List Piece} (i at : ℕ) → EachPiece (λ (p : Piece). (x : ℕ) → beginsAt p ≤ x → x < endOf p → P x) ps → SubstitutedIn ps i at → P at
+unfolding SubstitutedIn
+substituted-place i at nil u = absurd u
+substituted-place i at (cons p h hs) u =
+    ⊎-elim (λ w. let l = letter-place (p .until) (pieceBeginning p) (p .edits) i at w in h at (l .0) (l .1)) (λ w. substituted-place i at hs w) u
+
+pub lies-place : {P : ℕ → Type 0} {ps : List Piece} (i at : ℕ) → EachPiece (λ (p : Piece). (x : ℕ) → beginsAt p ≤ x → x < endOf p → P x) ps → LiesOn ps i at → P at
+lies-place i at h u = ⊎-elim (λ w. matched-place i at h w) (λ w. substituted-place i at h w) u
+
+-- a base that lies on the reference is one of the mapped bases
+substituted-below : {symbols : ℕ} {ps : List Piece} (from to i at : ℕ) → EachPiece (PieceSound symbols) ps → Spans from ps to → SubstitutedIn ps i at → i < to
+unfolding Spans SubstitutedIn
+substituted-below from to i at nil s u = absurd u
+substituted-below {symbols} from to i at (cons p h hs) s u =
+    ⊎-elim (λ w. omega (arith, spans-order (p .until) to hs (s .1), letter-below (p .until) symbols (pieceBeginning p) (p .edits) i at (h .sound) w))
+    (λ w. substituted-below (p .until) to i at hs (s .1) w)
+    u
+
+pub lies-below : {symbols : ℕ} {ps : List Piece} (from to i at : ℕ) → EachPiece (PieceSound symbols) ps → Spans from ps to → LiesOn ps i at → i < to
+lies-below from to i at h s u = ⊎-elim (λ w. matched-below from to i at h s w) (λ w. substituted-below from to i at h s w) u
 
 in-first : (p : Piece) (ps : List Piece) (i at : ℕ) → On (p .until) (pieceBeginning p) (p .edits) i at → LiesOn (p ∷ ps) i at
 unfolding MatchedIn SubstitutedIn

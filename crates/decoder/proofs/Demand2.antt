@@ -18,7 +18,7 @@ use Rattle.bases.proofs.ReadLaws.{getD-letters}
 use Rattle.block.specs.declared.unaligned.UnalignedBlock.{UnalignedBlock}
 use Rattle.segment.specs.Segment.{segmentBytes, alignedBytes, unalignedBytes}
 use Rattle.segment.specs.declared.Placed.{Placed}
-use Rattle.segment.proofs.StandardLaws.{SegmentAccepted, listed-begins, listed-is-table94, listed-operations, listed-counts, listed-reads, listed-end, listed-pieces, listed-apart, listed-flanked, listed-first, listed-last, listed-plain, listed-short, listed-length, listed-from, listed-place, listed-lent, listed-missing, listed-edit, listed-left, listed-right, listed-letter}
+use Rattle.segment.proofs.StandardLaws.{SegmentAccepted, listed-begins, listed-is-table94, listed-operations, listed-counts, listed-reads, listed-end, listed-pieces, listed-apart, listed-flanked, listed-any, listed-first, listed-last, listed-lies, listed-plain, listed-short, listed-length, listed-from, listed-place, listed-lent, listed-missing, listed-edit, listed-left, listed-right, listed-letter}
 use Rattle.taking.proofs.Reading.{decode-reads}
 use Rattle.plan.specs.Plan.{recordSteps, planOf}
 use Rattle.plan.specs.Said.{AlignedIn}
@@ -59,8 +59,10 @@ read-is-the-standards u reference symbols frame q bytes a =
       pieces-apart = listed-apart u reference symbols frame q a;
       behind-a-base = λ o d. listed-flanked u reference symbols frame q a o d .0;
       before-a-base = λ o d. listed-flanked u reference symbols frame q a o d .1;
+      some-piece = listed-any u reference symbols frame q a;
       first-base = listed-first u reference symbols frame q a;
       last-base = listed-last u reference symbols frame q a;
+      outermost = λ i at w. listed-lies u reference symbols frame q a i at w .1;
       ecigar = listed-is-table94 u reference symbols frame q a;
       short-plain = listed-plain u reference symbols frame q a bytes;
       short = listed-short u reference symbols frame q a bytes;

@@ -34,7 +34,7 @@ module _ (u : Unit) (reference symbols counts : List ℕ) (state : State) (line 
   pub refusal-is-in-the-table : (room n : ℕ) → recordOf u reference symbols counts state line room ≡ refused n → Refusal n
   refusal-is-in-the-table room = record-refusal u reference symbols counts state line room
 
-  -- DEMAND 2. An accepted record is the standard's: its link by Table 60, its positions by 3.14, those of a read's pieces by Table 62, its bases by 10.6.1, 10.2.2 and Table 35, its E-CIGAR by Tables 92 and 94
+  -- DEMAND 2. An accepted record is the standard's: its link by Table 60, its positions, by 3.14 wherever the first piece has a match or a substitution, those of a read's pieces by Table 62, its bases by 10.6.1, 10.2.2 and Table 35, its E-CIGAR by Tables 92 and 94
   pub accepted-record-is-the-standards : (frame : List ℕ) (next : State) → stepOf u reference symbols counts state line ≡ accepted frame next → StandardRecord u reference symbols counts state line frame next
   accepted-record-is-the-standards = accepted-is-the-standards u reference symbols counts state line
 

@@ -53,9 +53,12 @@ pub record StandardRead (u : Unit) (reference symbols frame : List ℕ) (q : Pla
   -- and none behind its last: some base from it on does
   pub before-a-base : (o : ℕ) → Deleted u frame q o → (i : ℕ) × ((o ≤ i) × ((i < mappedIn q) × ((at : ℕ) × Lies u symbols frame q i at)))
   -- so the position that is listed is that of a base which the read has (clause 3.14), wherever its first piece has a match or a substitution at all
-  pub first-base : OfFirst (λ (p : Piece). hasBase p ≡ true → (i : ℕ) × Lies u symbols frame q i (q .position)) (piecesAt u symbols frame q)
+  pub some-piece : 1 ≤ length (piecesAt u symbols frame q)
+  pub first-base : OfFirst (λ (p : Piece). hasBase p ≡ true → (i : ℕ) × ((i < mappedIn q) × Lies u symbols frame q i (q .position))) (piecesAt u symbols frame q)
   -- and so is the last position that its E-CIGAR reaches, wherever its last piece has one
-  pub last-base : OfLast (λ (p : Piece). hasBase p ≡ true → (i : ℕ) × Lies u symbols frame q i (q .position + total movesReference (listedOperations u symbols frame q) - 1)) (piecesAt u symbols frame q)
+  pub last-base : OfLast (λ (p : Piece). hasBase p ≡ true → (i : ℕ) × ((i < mappedIn q) × Lies u symbols frame q i (q .position + total movesReference (listedOperations u symbols frame q) - 1))) (piecesAt u symbols frame q)
+  -- no base of it lies further left, or further right
+  pub outermost : (i at : ℕ) → Lies u symbols frame q i at → (q .position ≤ at) × (at < q .position + total movesReference (listedOperations u symbols frame q))
   -- its E-CIGAR is the string that Table 94 makes of the mismatches and clips in its block, and of its pieces
   pub ecigar : listedEcigar u symbols frame q ≡ table94 u symbols frame q
   -- of a read in one piece it has at most 4,012 characters

@@ -62,7 +62,7 @@ checkOf class alphabet frame at count mapped =
     (cond (ltb mostRead mapped) (Refused lengthOut)
     (editsChecked class alphabet frame at count mapped))
 
--- the check of one piece of a read: the same two tests, and it ends no earlier than it begins (12). Whether its deletions are flanked is asked of the whole read alone. A piece of an accepted read meets all three: `piece-checked`
+-- the check of one piece of a read: the same two tests, and it ends no earlier than it begins (12). A piece of an accepted read meets all three: `piece-checked`. Whether its deletions are flanked is asked of the whole read alone
 unfoldable pub checkPiece : (class alphabet : ℕ) (frame : List ℕ) (from at count until : ℕ) → EditsChecked
 checkPiece class alphabet frame from at count until =
     cond (ltb mostEdits count) (Refused fieldOut)

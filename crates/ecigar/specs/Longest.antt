@@ -11,6 +11,6 @@ longestPlain = 2 * mostRead + 2 * (mostRead - 1) + 14
 abbrev pub mostSpliceDigits : ℕ
 mostSpliceDigits = 9 * (mostPieces - 1) + 3
 
--- of a read over introns, 4,165: with the digits of its splices, and a sign each. (Document 02's 4,177 has ten digits for each of the fifteen.)
+-- of a read over introns, 4,165: with the digits of its splices, and a sign each. (4,012 and document 02's 165 would be 4,177: that has ten digits for each of the fifteen.)
 abbrev pub longestSpliced : ℕ
 longestSpliced = longestPlain + mostSpliceDigits + (mostPieces - 1)

@@ -97,7 +97,7 @@ fronted-before until mapped symbols next es s q h =
 
 -- ---- what a flanked read meets
 
--- a base before it, so it is not the first
+-- a base before each deletion and one behind it, so that none stands at offset 0 or at the mapped length
 module _ (mapped : ℕ) (es : List Edit) (q : allFlanked mapped es ≡ true) where
   before : (o : ℕ) → flanked mapped es o ≡ true → someBase es 0 o ≡ true
   before o h = and-both (someBase es 0 o) (someBase es o (mapped - o)) h .0

@@ -56,7 +56,7 @@ editsAt class alphabet frame (suc k) at = editAt class alphabet frame at ∷ edi
 unfoldable pub nextOffset : Edit → ℕ
 nextOffset e = cond (eqb (e .kind) deletion) (e .offset) (e .offset + 1)
 
--- a deletion brings no symbol, and its offset is at most the mapped length
+-- a deletion brings no symbol, and its offset is at most the mapped length, as far as this edit alone goes (of all together: Flanks, `flankRefusal`)
 unfoldable pub deletionRefusal : (mapped next symbol offset : ℕ) → ℕ
 deletionRefusal mapped next symbol offset =
     unless (eqb symbol noSymbol) fieldOut

@@ -1,7 +1,7 @@
 -- What the standard says of an aligned segment that was accepted: its E-CIGAR is Table 94's, its bases come from the reference, its edits and its clips (10.6.1), and each of its pieces lies within its unit.
 -- Assumes nothing.
 use Prim.Native.Nat.{ℕ, _+_, _-_, _^_, _<_, _≤_}
-use mathlib.Core.Path.{_≡_, refl, sym, ap, _∙_}
+use mathlib.Core.Path.{_≡_, refl, sym, ap, subst, _∙_}
 use mathlib.Core.Logic.{_⊎_, ⊎-elim}
 use mathlib.Core.Bool.{true, false}
 use mathlib.Core.List.{List, [], _∷_}
@@ -21,7 +21,7 @@ use Rattle.state.proofs.HeadLaws.{length-wordsAt}
 use Rattle.edits.specs.declared.edit.Edit.{Edit}
 use Rattle.edits.specs.Lengths.{mostEdits, mostPieces, softBases}
 use Rattle.edits.specs.Flanks.{insertedAt, someBase, flanked, eachDeletion, allFlanked, hasBase}
-use Rattle.edits.specs.Pieces.{SignedPosition, straight, positionOf, Piece, beginsAt, endOf, lessFirst, EachPiece, cons, OfFirst, OfLast, Spans}
+use Rattle.edits.specs.Pieces.{SignedPosition, straight, positionOf, Piece, beginsAt, endOf, lessFirst, EachPiece, nil, cons, OfFirst, OfLast, Spans}
 use Rattle.edits.proofs.EditLaws.{length-edits}
 use Rattle.edits.proofs.PieceLaws.{PieceSound}
 use Rattle.edits.proofs.FlankLaws.{and-both, some-base, each-holds}
@@ -39,7 +39,7 @@ use Rattle.ecigar.proofs.ShortLaws.{EndFits, one-short, read-short}
 use Rattle.bases.specs.Alignment.{LiesOn}
 use Rattle.bases.specs.Reference.{isLent, lentSymbol, baseAt, baseRefusal}
 use Rattle.bases.proofs.SplicedLaws.{length-readBases, spliced-under-match, spliced-of-edit, spliced-left, spliced-right, from-some-piece, matched-place, matched-fine, edited-symbol}
-use Rattle.bases.proofs.FlankedLaws.{uninserted-lies, first-lies, last-lies}
+use Rattle.bases.proofs.FlankedLaws.{lies-place, lies-below, uninserted-lies, first-lies, last-lies}
 use Rattle.pieces.specs.Placed.{piecesRefusal}
 use Rattle.block.specs.Aligned.{alignedAt}
 use Rattle.block.specs.Unaligned.{unalignedAt}
@@ -166,18 +166,32 @@ last-both P Q S [] x y f = tt
 last-both P Q S (p ∷ []) x y f = f p x y
 last-both P Q S (p ∷ q ∷ ps) x y f = last-both P Q S (q ∷ ps) x y f
 
+-- pieces that stand apart lie one behind the other, from where the first begins to where the last ends
+apart-last : (p : Piece) (ps : List Piece) → Apart (endOf p) ps → endOf p ≤ endOf (lastPiece p ps)
+unfolding Apart lastPiece
+apart-last p [] a = omega arith
+apart-last p (q ∷ ps) a = omega (arith, a .0, apart-last q ps (a .1))
+
+apart-each : (low high : ℕ) (p : Piece) (ps : List Piece) → low ≤ beginsAt p → Apart (endOf p) ps → endOf (lastPiece p ps) ≤ high
+    → EachPiece (λ (x : Piece). (at : ℕ) → beginsAt x ≤ at → at < endOf x → (low ≤ at) × (at < high)) (p ∷ ps)
+unfolding Apart lastPiece
+apart-each low high p [] l a h = cons p (λ at b e. (omega arith, omega arith)) nil
+apart-each low high p (q ∷ ps) l a h =
+    cons p (λ at b e. (omega arith, omega (arith, a .0, apart-last q ps (a .1)))) (apart-each low high q ps (omega (arith, a .0)) (a .1) h)
+
 -- a base of the first piece lies where the read begins
-first-at : (l : List Piece) (position symbols : ℕ) → OfFirst (λ (p : Piece). beginsAt p ≡ position) l → EachPiece (PieceSound symbols) l → OfFirst (λ (p : Piece). fronted (p .start) (p .edits) ≡ true) l
-    → OfFirst (λ (p : Piece). hasBase p ≡ true → (i : ℕ) × LiesOn l i position) l
-first-at [] position symbols q h f = tt
-first-at (p ∷ ps) position symbols q (cons _ h hs) f = λ b. rw (← q) (first-lies p ps h f b)
+first-at : (l : List Piece) (position symbols to : ℕ) → Spans 0 l to → OfFirst (λ (p : Piece). beginsAt p ≡ position) l → EachPiece (PieceSound symbols) l
+    → OfFirst (λ (p : Piece). fronted (p .start) (p .edits) ≡ true) l → OfFirst (λ (p : Piece). hasBase p ≡ true → (i : ℕ) × ((i < to) × LiesOn l i position)) l
+first-at [] position symbols to s q h f = tt
+first-at (p ∷ ps) position symbols to s q (cons _ h hs) f = λ b.
+    let w = first-lies p ps h f b in (w .0, (lies-below 0 to (w .0) (beginsAt p) (cons p h hs) s (w .1), rw (← q) (w .1)))
 
 -- and one of the last where it ends
-last-at : (l : List Piece) (reach symbols : ℕ) → OfLast (λ (p : Piece). endOf p ≡ reach) l → EachPiece (PieceSound symbols) l → OfLast (λ (p : Piece). backed (p .until) (p .edits) ≡ true) l
-    → OfLast (λ (p : Piece). hasBase p ≡ true → (i : ℕ) × LiesOn l i (reach - 1)) l
-last-at l reach symbols q h f =
+last-at : (l : List Piece) (reach symbols to : ℕ) → Spans 0 l to → OfLast (λ (p : Piece). endOf p ≡ reach) l → EachPiece (PieceSound symbols) l
+    → OfLast (λ (p : Piece). backed (p .until) (p .edits) ≡ true) l → OfLast (λ (p : Piece). hasBase p ≡ true → (i : ℕ) × ((i < to) × LiesOn l i (reach - 1))) l
+last-at l reach symbols to s q h f =
     last-both (λ (p : Piece). endOf p ≡ reach) (λ (p : Piece). hasBase p ≡ true → (i : ℕ) × LiesOn l i (endOf p - 1)) _ l q (last-lies l l h f (λ i x w. w))
-    (λ p e w b. rw (← e) (w b))
+    (λ p e w b. let x = w b in (x .0, (lies-below 0 to (x .0) (endOf p - 1) h s (x .1), rw (← e) (x .1))))
 
 -- ---- what is listed of it
 
@@ -328,6 +342,14 @@ module _ (u : Unit) (reference symbols frame : List ℕ) (q : Placed) (a : Segme
   begun : beginsAt (start .piece) ≡ q .position
   begun = ap (λ (x : SignedPosition). positionOf x) (start .at-is) ∙ sub-zero (q .position)
 
+  reached : q .position + total movesReference (listedOperations u symbols frame q) ≡ endOf (lastPiece (start .piece) (start .others))
+  reached =
+      rw (start .are)
+      (omega (arith, begun, read-reference (u .alphabet) (q .block .rcomp) (sizeOf (u .alphabet)) (q .block .clips) (start .piece) (start .others) apart (rw (start .are) at each-sound)))
+
+  between : EachPiece (λ (p : Piece). (at : ℕ) → beginsAt p ≤ at → at < endOf p → (q .position ≤ at) × (at < q .position + total movesReference (listedOperations u symbols frame q))) pieces
+  between = subst (λ (l : List Piece). EachPiece (λ (p : Piece). (at : ℕ) → beginsAt p ≤ at → at < endOf p → (q .position ≤ at) × (at < q .position + total movesReference (listedOperations u symbols frame q))) l) (sym (start .are)) (apart-each (q .position) _ (start .piece) (start .others) (omega (arith, begun)) apart (omega (arith, reached)))
+
   ending : OfLast (λ (p : Piece). endOf p ≡ q .position + total movesReference (listedOperations u symbols frame q)) pieces
   ending =
       rw (start .are)
@@ -345,13 +367,21 @@ module _ (u : Unit) (reference symbols frame : List ℕ) (q : Placed) (a : Segme
       (length-positions symbols (firstMapping (q .splices) (q .position)) lengths ∙ sym (clipped-length left lengths))
       (a .pieced .sound) (flanked-back (mappedIn q) edits (a .flanks))
 
+  -- a base that lies on the reference is one of the mapped bases, and lies between the listed position and the last that the E-CIGAR reaches
+  pub listed-lies : (i at : ℕ) → Lies u symbols frame q i at → (i < mappedIn q) × ((q .position ≤ at) × (at < q .position + total movesReference (listedOperations u symbols frame q)))
+  listed-lies i at w = (lies-below 0 (mappedIn q) i at each-sound in-span w, lies-place i at between w)
+
+  -- it has a piece
+  pub listed-any : 1 ≤ length pieces
+  listed-any = rw (start .are) (omega arith)
+
   -- where the first piece has a base on the reference, one lies at the listed position
-  pub listed-first : OfFirst (λ (p : Piece). hasBase p ≡ true → (i : ℕ) × Lies u symbols frame q i (q .position)) pieces
-  listed-first = first-at pieces (q .position) (sizeOf (u .alphabet)) (rw (start .are) begun) each-sound fronts
+  pub listed-first : OfFirst (λ (p : Piece). hasBase p ≡ true → (i : ℕ) × ((i < mappedIn q) × Lies u symbols frame q i (q .position))) pieces
+  listed-first = first-at pieces (q .position) (sizeOf (u .alphabet)) (mappedIn q) in-span (rw (start .are) begun) each-sound fronts
 
   -- where the last piece has one, one lies at the last position that its E-CIGAR reaches
-  pub listed-last : OfLast (λ (p : Piece). hasBase p ≡ true → (i : ℕ) × Lies u symbols frame q i (q .position + total movesReference (listedOperations u symbols frame q) - 1)) pieces
-  listed-last = last-at pieces _ (sizeOf (u .alphabet)) ending each-sound backs
+  pub listed-last : OfLast (λ (p : Piece). hasBase p ≡ true → (i : ℕ) × ((i < mappedIn q) × Lies u symbols frame q i (q .position + total movesReference (listedOperations u symbols frame q) - 1))) pieces
+  listed-last = last-at pieces _ (sizeOf (u .alphabet)) (mappedIn q) in-span ending each-sound backs
 
   -- ---- how long its E-CIGAR is
 

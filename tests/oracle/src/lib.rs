@@ -1,6 +1,6 @@
 //! The second decoder: written from document 01, Wishes 1 and 2 of document 02, the settled open points
-//! (docs/DECISIONS.md) and the standard's tables alone, so that the product can be compared with something that shares no
-//! line with it.
+//! (docs/DECISIONS.md), the standard's clause 3.14 and its tables alone, so that the product can be compared with something
+//! that shares no line with it.
 //!
 //! It decodes into owned structures and prints those. Nothing is clever, nothing is lent.
 

@@ -22,7 +22,7 @@ pub const REFERENCE_LINE_MAX: usize = 1_000;
 /// Bases of the whole reference.
 pub const REFERENCE_MAX: usize = 32_768;
 /// Bytes of the longest listed line, its 0A counted: what the programs lend. Each of two E-CIGARs may have splices. No
-/// wish lowers it, also where E-CIGARs are shorter for one (decision 71).
+/// wish lowers it, even where one makes E-CIGARs shorter (decision 71).
 pub const LISTED_LINE_MAX: usize = 20_149 + 2 * 2 * SPLICES_TEXT_MAX;
 /// Bytes of an 04 frame before its first segment, the least such a frame can have.
 pub const LISTED_FRAME_LEAST: usize = 28;
@@ -30,7 +30,8 @@ pub const LISTED_FRAME_LEAST: usize = 28;
 pub const REFUSED_FRAME: usize = 4;
 /// Bytes of an 06 frame.
 pub const END_FRAME: usize = 3;
-/// Characters of the longest E-CIGAR. Deletions stand between bases only, so there is one run less of them than bases.
+/// No E-CIGAR has more characters; the longest has 4,165, as fifteen counts of ten digits do not fit into 2^32 positions.
+/// Deletions stand between bases only, so there is one run less of them than bases.
 pub const ECIGAR_MAX: usize = 4_012 + SPLICES_TEXT_MAX;
 /// Characters of all splices of an E-CIGAR, a count of at most ten digits and a sign each.
 const SPLICES_TEXT_MAX: usize = (PIECES_MAX as usize - 1) * "4294967295*".len();

@@ -14,7 +14,11 @@ const SIXTEEN: [u32; 16] = [62, 62, 62, 62, 62, 62, 62, 62, 62, 62, 62, 62, 62, 
 
 /// What the splice in front of a piece counts: twelve have nine digits, and no more than three can have ten.
 fn splice(piece: usize) -> u32 {
-    if piece <= 12 { 100_000_000 } else { 1_000_000_000 }
+    if piece <= 12 {
+        100_000_000
+    } else {
+        1_000_000_000
+    }
 }
 
 /// The record line: rcomp 2, which writes splices as `*`, and a deletion in front of each base but the first.
