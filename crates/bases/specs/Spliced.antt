@@ -1,4 +1,4 @@
--- The bases of a read over introns (document 01, Wish 1): those of its pieces one after the other, and the soft-clipped bases on both sides.
+-- The bases of a read over introns (document 02, Wish 1): those of its pieces one after the other, and the soft-clipped bases on both sides.
 -- Assumes nothing.
 use Prim.Native.Nat.{ℕ, _+_}
 use mathlib.Core.List.{List, [], _∷_, _++_}

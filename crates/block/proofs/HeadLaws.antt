@@ -17,8 +17,7 @@ use Rattle.taking.proofs.Decoding.{decode-tells, then-goes, then-stops, then-ca
 use Rattle.edits.specs.Pieces.{SignedPosition, straight}
 use Rattle.splices.specs.Table62.{splicedSegMappingPos}
 use Rattle.splices.specs.code.Taken.{symbolsMoved, spliceTurns}
-use Rattle.splices.specs.code.Mapping.{positionsFrom}
-use Rattle.splices.specs.code.Walk.{unspliced, lengthsIn, firstMapping}
+use Rattle.splices.specs.Located.{positionsFrom, unspliced, lengthsIn, firstMapping}
 use Rattle.splices.specs.declared.take.SymbolsMoved.{SymbolsMoved}
 use Rattle.splices.proofs.TakenLaws.{turns-moved}
 use Rattle.splices.proofs.MappingLaws.{positions-found}

@@ -16,7 +16,7 @@ use Rattle.frame.proofs.StepLaws.{past-field, past-refusal, past-match}
 use Rattle.state.specs.Listed.{wordsAt}
 use Rattle.edits.specs.Pieces.{sumOf, lastLength}
 use Rattle.edits.proofs.PieceLaws.{NoneZero}
-use Rattle.splices.specs.code.Walk.{lengthsIn}
+use Rattle.splices.specs.Located.{lengthsIn}
 use Rattle.splices.specs.declared.Splices.{Splices}
 use Rattle.splices.proofs.WalkLaws.{length-past}
 use Rattle.block.specs.declared.checked.CheckedField.the-variants.{Value, Refused}

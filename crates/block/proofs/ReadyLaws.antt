@@ -29,7 +29,8 @@ use Rattle.edits.specs.Flanks.{allFlanked}
 use Rattle.edits.specs.Pieces.{straight, sumOf, lastLength}
 use Rattle.edits.proofs.PieceLaws.{NoneZero}
 use Rattle.splices.specs.Table62.{splicedSegMappingPos}
-use Rattle.splices.specs.code.Walk.{unspliced, lengthsIn, Begun}
+use Rattle.splices.specs.Located.{unspliced, lengthsIn}
+use Rattle.splices.specs.code.Walk.{Begun}
 use Rattle.splices.specs.declared.Splices.{Splices}
 use Rattle.ecigar.specs.Check.{checkOf}
 use Rattle.ecigar.specs.Ecigar.{ecigarText, clipsLength, OfItsClass}
@@ -37,7 +38,7 @@ use Rattle.ecigar.specs.declared.check.EditsChecked.{EditsChecked}
 use Rattle.ecigar.specs.declared.check.EditsChecked.the-variants as edits
 use Rattle.ecigar.proofs.CheckLaws.{checked-fine}
 use Rattle.ecigar.proofs.TextLaws.{checked-length}
-use Rattle.ecigar.proofs.OperationLaws.{ClipsFit}
+use Rattle.ecigar.proofs.LengthLaws.{ClipsFit}
 use Rattle.block.specs.Checked.{lengthIn, lengthAt, mostRcomp, rcompIn, rcompAt, numberIn, numberAt, lengthsFrom, countIn, countAt, afterChecked}
 use Rattle.block.specs.Clips.{clipsOf, clipsInRead, clipsInPieces, clipsIn, clipsAt}
 use Rattle.block.specs.Symbols.{symbolsFrom}

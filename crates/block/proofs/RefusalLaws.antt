@@ -20,7 +20,7 @@ use Rattle.edits.specs.declared.Clips.{Clips}
 use Rattle.edits.specs.declared.Block.{Block}
 use Rattle.state.specs.Listed.{wordsAt}
 use Rattle.splices.specs.Table62.{same-rec-short, same-rec-long, table62, nextMappingPos, splicedSegMappingPos}
-use Rattle.splices.specs.code.Walk.{lengthsIn}
+use Rattle.splices.specs.Located.{lengthsIn}
 use Rattle.splices.specs.declared.Splices.{Splices}
 use Rattle.ecigar.specs.Check.{checkOf}
 use Rattle.ecigar.specs.declared.check.EditsChecked.{EditsChecked}

@@ -10,7 +10,7 @@ use Rattle.frame.specs.declared.field.Field.the-variants as field
 use Rattle.edits.specs.declared.Clips.{Clips}
 use Rattle.edits.specs.Lengths.{softBases}
 use Rattle.edits.specs.Pieces.{lastLength}
-use Rattle.splices.specs.code.Walk.{lengthsIn}
+use Rattle.splices.specs.Located.{lengthsIn}
 use Rattle.splices.specs.declared.Splices.{Splices}
 use Rattle.block.specs.declared.clips.Clipped.{Clipped}
 use Rattle.block.specs.declared.clips.Clipped.the-variants.{Whole, Refused}

@@ -14,7 +14,7 @@ use Rattle.state.specs.declared.State.{State}
 use Rattle.taking.specs.Steps.{Steps, sets, refuses, marks, andThen, Came, came, stopped}
 use Rattle.edits.specs.Pieces.{straight}
 use Rattle.splices.specs.Table62.{splicedSegMappingPos}
-use Rattle.splices.specs.code.Walk.{unspliced}
+use Rattle.splices.specs.Located.{unspliced}
 use Rattle.splices.specs.declared.Splices.{Splices}
 use Rattle.block.specs.Checked.{lengthAt, rcompAt, numberAt, lengthsAt, afterChecked}
 use Rattle.block.specs.declared.head.BlockHead.{BlockHead}

@@ -18,7 +18,9 @@ use Rattle.bases.proofs.ReadLaws.{getD-letters}
 use Rattle.block.specs.declared.unaligned.UnalignedBlock.{UnalignedBlock}
 use Rattle.segment.specs.Segment.{segmentBytes, alignedBytes, unalignedBytes}
 use Rattle.segment.specs.declared.Placed.{Placed}
-use Rattle.segment.proofs.StandardLaws.{SegmentAccepted, listed-begins, listed-is-table94, listed-operations, listed-counts, listed-reads, listed-end, listed-pieces, listed-apart, listed-flanked, listed-any, listed-first, listed-last, listed-lies, listed-plain, listed-short, listed-length, listed-from, listed-place, listed-lent, listed-missing, listed-edit, listed-left, listed-right, listed-letter}
+use Rattle.segment.specs.Listed.{listedEcigar}
+use Rattle.tables.specs.Longest.{longestSpliced}
+use Rattle.segment.proofs.StandardLaws.{SegmentAccepted, listed-begins, listed-is-table92, listed-operations, listed-counts, listed-reads, listed-end, listed-pieces, listed-apart, listed-flanked, listed-any, listed-first, listed-last, listed-lies, listed-plain, listed-short, listed-length, listed-from, listed-place, listed-lent, listed-missing, listed-edit, listed-left, listed-right, listed-letter}
 use Rattle.taking.proofs.Reading.{decode-reads}
 use Rattle.plan.specs.Plan.{recordSteps, planOf}
 use Rattle.plan.specs.Said.{AlignedIn}
@@ -41,7 +43,7 @@ use Rattle.decoder.specs.Turned.{callsFor}
 use Rattle.decoder.proofs.TableLaws.{reads-bases}
 use Rattle.decoder.proofs.LawfulLaws.{front-is-lawful}
 use Rattle.decoder.proofs.OpenedLaws.{opened-table}
-use Rattle.decoder.proofs.FitLaws.{mate-position, mate-sequence, read-position}
+use Rattle.decoder.proofs.FitLaws.{mate-position, mate-sequence, read-position, ecigar-fits}
 use Rattle.decoder.proofs.SymbolsLaws.{taken-in-order}
 use Rattle.decoder.proofs.ListingLaws.{lines-short, listing-bytes, opened-calls}
 
@@ -63,7 +65,7 @@ read-is-the-standards u reference symbols frame q bytes a =
       first-base = listed-first u reference symbols frame q a;
       last-base = listed-last u reference symbols frame q a;
       outermost = λ i at w. listed-lies u reference symbols frame q a i at w .1;
-      ecigar = listed-is-table94 u reference symbols frame q a;
+      plain = listed-is-table92 u reference symbols frame q a;
       short-plain = listed-plain u reference symbols frame q a bytes;
       short = listed-short u reference symbols frame q a bytes;
       operations = listed-operations u reference symbols frame q a;
@@ -151,6 +153,10 @@ module _ (refFile unitFile : List ℕ) where
 
     pub read-position-is-whole : (q : Placed) → AlignedIn p q → q .position < 2 ^ 32
     read-position-is-whole = read-position o i line r p said
+
+    -- no E-CIGAR of the record has more than 4,165 characters
+    pub no-ecigar-is-longer : (q : Placed) → AlignedIn p q → length (listedEcigar (o .unit) (tableOf (o .rows)) (unhex (getD (o .lines) i [])) q) ≤ longestSpliced
+    no-ecigar-is-longer = ecigar-fits o i line r p said
 
   -- the symbols taken from a subsequence by the first k records are its first ones: in order, each once
   pub symbols-are-taken-in-order : (o : Opened refFile unitFile) (s : ℕ) → s < subsequences → (k : ℕ) → symbolsTaken o s k ≡ take (length (symbolsTaken o s k)) (getD (o .rows) s [])

@@ -9,7 +9,7 @@ use lib.ListN.{length, getD, getD-replicate, List·getD-eq-default}
 use borrow.Author.Tests.{ltb-true, ltb-false}
 use Rattle.frame.specs.Hex.{unhex}
 use Rattle.frame.specs.Steps.{storedAt}
-use Rattle.frame.proofs.HexLaws.{by-test}
+use Rattle.frame.proofs.HexLaws.{by-test, byte-lt}
 use Rattle.unit.specs.Pairs.{subsequences, symbolPlace, tableLength}
 use Rattle.unit.proofs.ValidLaws.{UnitValid, valid-is}
 use Rattle.front.specs.PairLine.{pairHead, symbolList}
@@ -19,7 +19,9 @@ use Rattle.front.proofs.UnitLaws.{UnitFits, unit-fits, unit-valid}
 use Rattle.pairing.specs.Table60.{mateSeqId, mappingPos}
 use Rattle.pairing.proofs.Laws.{link-within}
 use Rattle.segment.specs.declared.Placed.{Placed}
-use Rattle.segment.proofs.StandardLaws.{listed-begins}
+use Rattle.segment.specs.Listed.{listedEcigar}
+use Rattle.segment.proofs.StandardLaws.{listed-begins, listed-short}
+use Rattle.tables.specs.Longest.{longestSpliced}
 use Rattle.plan.specs.Plan.{planOf}
 use Rattle.plan.specs.Said.{PlanTaken, AlignedIn}
 use Rattle.plan.specs.declared.read.Plan.{Plan}
@@ -111,3 +113,8 @@ module _ {refFile unitFile : List ℕ} (o : Opened refFile unitFile) where
     read-position q listed =
         let a = said-aligned (o .unit) (o .reference) (tableOf (o .rows)) (countsIn (o .rows)) (r .before) (getD (o .lines) i []) (r .frame) (r .next) (r .call) p said q listed in
         omega (arith, listed-begins (o .unit) (o .reference) (tableOf (o .rows)) (unhex (getD (o .lines) i [])) q a .1, opened-fits .end)
+
+    pub ecigar-fits : (q : Placed) → AlignedIn p q → length (listedEcigar (o .unit) (tableOf (o .rows)) (unhex (getD (o .lines) i [])) q) ≤ longestSpliced
+    ecigar-fits q listed =
+        let a = said-aligned (o .unit) (o .reference) (tableOf (o .rows)) (countsIn (o .rows)) (r .before) (getD (o .lines) i []) (r .frame) (r .next) (r .call) p said q listed in
+        listed-short (o .unit) (o .reference) (tableOf (o .rows)) (unhex (getD (o .lines) i [])) q a (byte-lt (getD (o .lines) i [])) (opened-fits .end)

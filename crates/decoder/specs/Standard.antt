@@ -18,12 +18,12 @@ use Rattle.pairing.specs.declared.LinkRead.the-variants.{Linked}
 use Rattle.edits.specs.declared.edit.Edit.{Edit}
 use Rattle.edits.specs.Flanks.{hasBase}
 use Rattle.edits.specs.Pieces.{Piece, EachPiece, OfFirst, OfLast}
-use Rattle.ecigar.specs.Longest.{longestPlain, longestSpliced}
+use Rattle.tables.specs.Longest.{longestPlain, longestSpliced}
 use Rattle.ecigar.specs.Table90.{printAll, movesRead, movesReference, total, AllPositive}
 use Rattle.bases.specs.Bases.{lettersAt}
 use Rattle.block.specs.declared.unaligned.UnalignedBlock.{UnalignedBlock}
 use Rattle.segment.specs.Segment.{segmentBytes}
-use Rattle.segment.specs.Listed.{listedBases, listedEcigar, listedOperations, mappedIn, table94, piecesAt, Matches, Brought, Lies, Deleted, Letter, InUnit, Follow}
+use Rattle.segment.specs.Listed.{listedBases, listedEcigar, listedOperations, mappedIn, table92, table94, piecesAt, Matches, Brought, Lies, Deleted, Letter, InUnit, Follow}
 use Rattle.segment.specs.declared.Placed.{Placed}
 use Rattle.segment.specs.declared.Segment.the-variants.{Aligned, Unaligned, Absent}
 use Rattle.taking.specs.Reading.{takenIn, raisedBy}
@@ -37,9 +37,9 @@ use Rattle.state.specs.State.{Shaped, after}
 -- ---- an aligned read
 
 pub record StandardRead (u : Unit) (reference symbols frame : List ℕ) (q : Placed) : Type 0 where
-  -- what is listed of it: where it maps, its strand, its length, its bases, and its E-CIGAR
+  -- what is listed of it: where it maps, its strand, its length, its bases, and its E-CIGAR, which is the string that Table 94 makes of the mismatches and clips in its block, and of its pieces (`listedEcigar` below)
   pub listed : segmentBytes u reference symbols frame (Aligned q)
-      ≡ be 4 (q .position) ++ be 1 (q .block .rcomp) ++ be 2 (q .block .length) ++ listedBases u reference symbols frame q ++ be 2 (length (listedEcigar u symbols frame q)) ++ listedEcigar u symbols frame q
+      ≡ be 4 (q .position) ++ be 1 (q .block .rcomp) ++ be 2 (q .block .length) ++ listedBases u reference symbols frame q ++ be 2 (length (table94 u symbols frame q)) ++ table94 u symbols frame q
   -- it maps to a position of its unit
   pub begins : (u .start ≤ q .position) × (q .position ≤ u .end)
   -- and its E-CIGAR reaches no further than the unit's last position
@@ -59,8 +59,8 @@ pub record StandardRead (u : Unit) (reference symbols frame : List ℕ) (q : Pla
   pub last-base : OfLast (λ (p : Piece). hasBase p ≡ true → (i : ℕ) × ((i < mappedIn q) × Lies u symbols frame q i (q .position + total movesReference (listedOperations u symbols frame q) - 1))) (piecesAt u symbols frame q)
   -- no base of it lies further left, or further right
   pub outermost : (i at : ℕ) → Lies u symbols frame q i at → (q .position ≤ at) × (at < q .position + total movesReference (listedOperations u symbols frame q))
-  -- its E-CIGAR is the string that Table 94 makes of the mismatches and clips in its block, and of its pieces
-  pub ecigar : listedEcigar u symbols frame q ≡ table94 u symbols frame q
+  -- the E-CIGAR of a read in one piece is the string that Table 92 makes
+  pub plain : q .splices .count ≡ 1 → listedEcigar u symbols frame q ≡ table92 u frame q
   -- of a read in one piece it has at most 4,012 characters
   pub short-plain : q .splices .count ≡ 1 → length (listedEcigar u symbols frame q) ≤ longestPlain
   -- and of any read at most 4,165, where the unit's end has 32 bits

@@ -3,12 +3,7 @@ pub mod WalkLaws
 pub mod CheckLaws
 pub mod TextLaws
 pub mod SubstitutionLaws
-pub mod Table93Laws
-pub mod Table92Laws
-pub mod OperationLaws
+pub mod LengthLaws
 pub mod RefusalLaws
-pub mod BytesLaws
-pub mod SplicedLaws
-pub mod ShortLaws
-pub mod Table94Laws
+pub mod SpliceLaws
 pub mod Unique

@@ -1,5 +1,5 @@
 -- How the code walks over a segment's edits: Table 93's loops with the run that is open kept as state, and Table 92's clips. Nobody need read this
--- beside the standard: `ecigar-is-table92` (proofs/Table92Laws) says that its text is Table 92's for every segment that is `OfItsClass` and `Sound`.
+-- beside the standard: `ecigar-is-table92` (tables, proofs/Table92Laws) says that its text is Table 92's for every segment that is `OfItsClass` and `Sound`.
 -- Assumes nothing.
 use Prim.Native.Nat.{ℕ, _+_, _-_, _<_, _≤_}
 use mathlib.Core.Path.{_≡_}

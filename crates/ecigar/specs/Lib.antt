@@ -1,9 +1,5 @@
 pub mod Table90
 pub mod Ecigar
 pub mod Spliced
-pub mod Table93
-pub mod Table92
-pub mod Table94
-pub mod Longest
 pub mod Check
 pub mod code

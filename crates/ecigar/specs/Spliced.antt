@@ -1,5 +1,5 @@
 -- The text of a read over introns: Table 93's for each piece, a splice between two, and the clips around. Nobody need read this beside the standard:
--- `read-is-table94` (proofs/Table94Laws) says that it is Table 94's for every read that is accepted, and `read-one` (proofs/SplicedLaws) that a read in one
+-- `read-is-table94` (tables, proofs/Table94Laws) says that it is Table 94's for every read that is accepted, and `read-one` (tables, proofs/SplicedLaws) that a read in one
 -- piece has the text that it has without splices.
 -- Assumes nothing.
 use Prim.Native.Nat.{ℕ, _+_, _-_, _<_}

@@ -11,12 +11,11 @@ use Rattle.edits.specs.Flanks.{insertedAt, someBase, eachDeletion}
 use Rattle.edits.specs.Edits.{widthOf, editAt, editsAt, nextOffset, deletionRefusal, editRefusal, takenFrom}
 use Rattle.edits.specs.Pieces.{piecesFrom, lessFirst}
 use Rattle.splices.specs.Table62.{splicedSegMappingPos}
-use Rattle.splices.specs.code.Mapping.{positionsFrom}
-use Rattle.splices.specs.code.Walk.{piecesIn}
+use Rattle.splices.specs.Located.{positionsFrom, piecesIn}
 use Rattle.ecigar.specs.Check.{editsRefusal, answered, editsChecked, checkOf}
-use Rattle.ecigar.specs.Table92.{leftClipped, rightClipped}
-use Rattle.ecigar.specs.Table94.{unclippedLength, splicedLoop, splicedEcigarString, splicedSegsFrom}
-use Rattle.ecigar.specs.Table93.{withMatch, mismatchLoop, insertionLoop, deletionLoop, indelLoop, decodeECigarMismatches}
+use Rattle.tables.specs.Table92.{leftClipped, rightClipped}
+use Rattle.tables.specs.Table94.{unclippedLength, splicedLoop, splicedEcigarString, splicedSegsFrom}
+use Rattle.tables.specs.Table93.{withMatch, mismatchLoop, insertionLoop, deletionLoop, indelLoop, decodeECigarMismatches}
 use Rattle.writing.specs.Decimal.{decimalF, decimal}
 use Rattle.frame.specs.Field.{bigAt, fieldAt}
 use Rattle.frame.specs.Hex.{isDigit, nib, unhex, allDigits, be}

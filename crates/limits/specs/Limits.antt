@@ -24,7 +24,7 @@ mostPieces = 16
 abbrev pub mostSplice : ℕ
 mostSplice = 11
 
--- room for every E-CIGAR, 4,179 characters: two for each base and each edit, two clips of seven, and the splices between the pieces. None comes to be as long (`longestPlain` and `longestSpliced` of ecigar)
+-- room for every E-CIGAR, 4,179 characters: two for each base and each edit, two clips of seven, and the splices between the pieces. None comes to be as long (`longestPlain` and `longestSpliced` of tables)
 abbrev pub mostEcigar : ℕ
 mostEcigar = 2 * mostRead + 2 * mostEdits + 14 + (mostPieces - 1) * mostSplice
 

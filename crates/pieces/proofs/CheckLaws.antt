@@ -20,14 +20,15 @@ use Rattle.edits.specs.declared.Block.{Block}
 use Rattle.edits.specs.declared.Run.{Run}
 use Rattle.edits.proofs.EditLaws.{length-edits}
 use Rattle.splices.specs.declared.walk.PieceWalk.{PieceWalk}
-use Rattle.splices.specs.code.Walk.{pieceHere, piecesIn, piecesLeft, firstPiece, nextPiece}
+use Rattle.splices.specs.Located.{piecesIn}
+use Rattle.splices.specs.code.Walk.{pieceHere, piecesLeft, firstPiece, nextPiece}
 use Rattle.splices.specs.declared.Splices.{Splices}
 use Rattle.splices.proofs.WalkLaws.{pieces-begin}
 use Rattle.ecigar.specs.Check.{checkPiece}
 use Rattle.ecigar.specs.declared.check.EditsChecked.{EditsChecked}
 use Rattle.ecigar.specs.declared.check.EditsChecked.the-variants.{Fine, Refused}
 use Rattle.ecigar.proofs.CheckLaws.{piece-checked}
-use Rattle.ecigar.proofs.OperationLaws.{piece-most}
+use Rattle.ecigar.proofs.LengthLaws.{piece-most}
 use Rattle.ecigar.specs.Table90.{printAll}
 use Rattle.ecigar.specs.Spliced.{pieceOperations}
 use Rattle.pieces.specs.Place.{placeRefusal}

@@ -23,13 +23,14 @@ use Rattle.frame.specs.Field.{bigAt}
 use Rattle.splices.specs.declared.walk.PieceWalk.{PieceWalk}
 use Rattle.splices.specs.declared.Splices.{Splices}
 use Rattle.splices.specs.code.Mapping.{RoomFor}
-use Rattle.splices.specs.code.Walk.{pieceHere, piecesLeft, piecesIn, firstMapping, firstPiece, nextPiece, Walkable}
+use Rattle.splices.specs.Located.{piecesIn, firstMapping}
+use Rattle.splices.specs.code.Walk.{pieceHere, piecesLeft, firstPiece, nextPiece, Walkable}
 use Rattle.splices.proofs.WalkLaws.{pieces-begin, cut-kept}
 use Rattle.bases.specs.Spliced.{pieceBases, piecesBases}
 use Rattle.ecigar.specs.Table90.{Operation, printAll}
 use Rattle.ecigar.specs.Spliced.{spliceOf, pieceOperations, splicesFrom, piecesOperations}
 use Rattle.ecigar.proofs.PrintLaws.{printed-append, length-printed}
-use Rattle.ecigar.proofs.SplicedLaws.{length-splice}
+use Rattle.ecigar.proofs.SpliceLaws.{length-splice}
 use Rattle.pieces.specs.Placed.{leastBehind}
 use Rattle.pieces.specs.code.Checked.{spliceBefore, operationsBehind, spliceText, textBehind, ReadyPiece, Walking, WalkBegun}
 use Rattle.pieces.specs.code.Written.{Standing, Ordered, operationsOfPiece, gainOf, gainsOf}

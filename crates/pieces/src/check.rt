@@ -14,7 +14,8 @@ ghost use mathlib.Core.Path.{_≡_};
 ghost use Prim.Native.Nat.{_+_, _*_, _^_, _<_, _≤_};
 ghost use Rattle.limits.specs.Limits.{mostRead, mostEdits, mostSplice};
 ghost use Rattle.edits.specs.Pieces.{beginsAt, splicedSegMappedLength};
-ghost use Rattle.splices.specs.code.Walk.{pieceHere, piecesIn};
+ghost use Rattle.splices.specs.Located.{piecesIn};
+ghost use Rattle.splices.specs.code.Walk.{pieceHere};
 ghost use Rattle.bases.specs.Spliced.{pieceRefusal};
 ghost use Rattle.pieces.specs.code.Checked.{runHere, spliceText, pieceRefused, pieceFound, piecesFound, ReadyPiece, Looked, WalkBegun};
 

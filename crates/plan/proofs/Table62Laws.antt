@@ -21,8 +21,7 @@ use Rattle.pairing.specs.Pairing.{pairSteps, pairOf}
 use Rattle.pairing.proofs.Laws.{pair-came}
 use Rattle.edits.specs.Pieces.{SignedPosition, piecesOf}
 use Rattle.splices.specs.declared.Splices.{Splices}
-use Rattle.splices.specs.code.Mapping.{positionsFrom}
-use Rattle.splices.specs.code.Walk.{lengthsIn, firstMapping, piecesIn}
+use Rattle.splices.specs.Located.{positionsFrom, lengthsIn, firstMapping, piecesIn}
 use Rattle.pieces.specs.Placed.{piecesRefusal}
 use Rattle.block.specs.Aligned.{alignedAt}
 use Rattle.block.specs.Head.{headAt}

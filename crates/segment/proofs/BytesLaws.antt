@@ -6,7 +6,7 @@ use lib.ListN.{length}
 use Rattle.frame.specs.Hex.{Bytes, be}
 use Rattle.frame.proofs.HexLaws.{bytes-be, bytes-append}
 use Rattle.unit.specs.declared.Unit.{Unit}
-use Rattle.ecigar.proofs.SplicedLaws.{bytes-readText}
+use Rattle.tables.proofs.SplicedLaws.{bytes-readText}
 use Rattle.bases.specs.Bases.{lettersAt}
 use Rattle.bases.proofs.BytesLaws.{bytes-letters}
 use Rattle.bases.proofs.SplicedLaws.{bytes-spliced}

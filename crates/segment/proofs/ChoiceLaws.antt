@@ -17,11 +17,10 @@ use Rattle.edits.specs.Edits.{takenFrom, blockEdits}
 use Rattle.edits.specs.Lengths.{mappedLength}
 use Rattle.edits.specs.Pieces.{lessFirst}
 use Rattle.edits.proofs.EditLaws.{length-edits}
-use Rattle.splices.specs.code.Mapping.{positionsFrom}
-use Rattle.splices.specs.code.Walk.{lengthsIn, firstMapping, piecesIn}
+use Rattle.splices.specs.Located.{positionsFrom, lengthsIn, firstMapping, piecesIn}
 use Rattle.ecigar.specs.Ecigar.{ecigarText, clipsLength}
 use Rattle.ecigar.specs.Spliced.{readText}
-use Rattle.ecigar.proofs.SplicedLaws.{PositionFits, clipped-length, length-read, pieces-most, pieces-edits}
+use Rattle.tables.proofs.SplicedLaws.{PositionFits, clipped-length, length-read, pieces-most, pieces-edits}
 use Rattle.pieces.specs.Place.{placeRefusal}
 use Rattle.pieces.specs.Placed.{piecesRefusal}
 use Rattle.pieces.specs.code.Checked.{textBehind, piecesFound}

@@ -16,11 +16,10 @@ use Rattle.edits.specs.Lengths.{mappedLength}
 use Rattle.edits.specs.Pieces.{Piece, straight, piecesFrom, lessFirst}
 use Rattle.edits.specs.declared.Block.{Block}
 use Rattle.splices.specs.declared.Splices.{Splices}
-use Rattle.splices.specs.code.Mapping.{positionsFrom}
-use Rattle.splices.specs.code.Walk.{piecesIn}
+use Rattle.splices.specs.Located.{positionsFrom, piecesIn}
 use Rattle.ecigar.specs.Ecigar.{ecigarText}
 use Rattle.ecigar.specs.Spliced.{readText}
-use Rattle.ecigar.proofs.SplicedLaws.{read-one}
+use Rattle.tables.proofs.SplicedLaws.{read-one}
 use Rattle.bases.specs.Bases.{basesText}
 use Rattle.bases.specs.Spliced.{readBases}
 use Rattle.bases.proofs.SplicedLaws.{one-piece}

@@ -24,19 +24,19 @@ use Rattle.edits.proofs.EditLaws.{length-edits}
 use Rattle.edits.proofs.PieceLaws.{PieceSound, NoneZero}
 use Rattle.splices.specs.declared.Splices.{Splices}
 use Rattle.splices.specs.declared.mapping.Mapping.{Mapping}
-use Rattle.splices.specs.code.Mapping.{following, positionsFrom, RoomFor}
-use Rattle.splices.specs.code.Walk.{unspliced, lengthsIn, firstMapping, piecesIn, piecesLeft, firstPiece, Begun, NarrowSplices}
+use Rattle.splices.specs.Located.{following, positionsFrom, lengthsIn, firstMapping, piecesIn}
+use Rattle.splices.specs.code.Walk.{piecesLeft, firstPiece, NarrowSplices}
 use Rattle.splices.proofs.WalkLaws.{pieces-begin, first-cut, begin-kept, begin-mapping}
-use Rattle.ecigar.specs.Table92.{ecigarString, offsetsOf, lettersIn, typesOf}
-use Rattle.ecigar.specs.Table94.{SplicedSeg, splicedEcigarString, splicedSegsFrom}
+use Rattle.tables.specs.Table92.{ecigarString, offsetsOf, lettersIn, typesOf}
+use Rattle.tables.specs.Table94.{SplicedSeg, splicedEcigarString, splicedSegsFrom}
 use Rattle.ecigar.specs.Ecigar.{OfItsClass}
 use Rattle.ecigar.specs.Spliced.{readText, ClipsLeave}
-use Rattle.ecigar.proofs.SplicedLaws.{pieces-of-sound, pieces-of-span}
-use Rattle.ecigar.proofs.Table92Laws.{ecigar-is-table92}
-use Rattle.ecigar.proofs.Table94Laws.{read-is-table94}
+use Rattle.tables.proofs.SplicedLaws.{pieces-of-sound, pieces-of-span}
+use Rattle.tables.proofs.Table92Laws.{ecigar-is-table92}
+use Rattle.tables.proofs.Table94Laws.{read-is-table94}
 use Rattle.bases.proofs.ReferenceLaws.{length-letters}
 use Rattle.pieces.specs.code.Checked.{WalkBegun, Walking}
-use Rattle.segment.specs.Segment.{editsIn, piecesAt, leftSoftClips, rightSoftClips, table94}
+use Rattle.segment.specs.Segment.{editsIn, piecesAt, leftSoftClips, rightSoftClips, table92, table94}
 use Rattle.segment.specs.code.Ready.{Pieced}
 use Rattle.segment.specs.declared.Placed.{Placed}
 use Rattle.segment.proofs.OneLaws.{onlyPiece, only-piece, only-text}
@@ -187,3 +187,11 @@ module _ (u : Unit) (symbols frame : List ℕ) (q : Placed) (class : OfItsClass 
       (read-is-table94 (u .class) (u .alphabet) (q .block .rcomp) (mappedLength (q .block .length) (q .block .clips)) (q .block .length) es (q .block .clips) (leftSoftClips u frame q) (rightSoftClips u frame q) lengths positions
       i (class .last) (g .rcomp) (length-letters _ _ _ _) (length-letters _ _ _ _) (g .none-zero i) (omega (arith, g .sum i, g .soft)) (clips-leave (u .class) (u .alphabet) frame symbols (q .block) (q .splices) g i)
       (length-positions symbols (firstMapping (q .splices) (q .position)) lengths) (g .sound)))
+
+  -- and of a read in one piece Table 92's
+  pub text-is-table92 : q .splices .count ≡ 1 → table94 u symbols frame q ≡ table92 u frame q
+  text-is-table92 one =
+      sym text-is-table94
+      ∙ ap (readText (u .alphabet) (q .block .rcomp) (q .block .clips)) (only-piece (u .class) (u .alphabet) frame symbols (q .block) (q .splices) (q .position) one)
+      ∙ only-text (u .class) (u .alphabet) frame (q .block) (q .position)
+      ∙ ecigar-is-table92 (u .class) (u .alphabet) frame (q .block) (leftSoftClips u frame q) (rightSoftClips u frame q) class (g .sound) (length-letters _ _ _ _) (length-letters _ _ _ _)

@@ -21,10 +21,9 @@ use Rattle.edits.specs.Pieces.{SignedPosition, straight, positionOf, Piece, edi
 use Rattle.edits.specs.declared.Block.{Block}
 use Rattle.splices.specs.declared.Splices.{Splices}
 use Rattle.splices.specs.declared.mapping.Mapping.{Mapping}
-use Rattle.splices.specs.code.Mapping.{positionIn, positionsFrom}
-use Rattle.splices.specs.code.Walk.{lengthsIn, firstMapping, piecesIn}
+use Rattle.splices.specs.Located.{positionIn, positionsFrom, lengthsIn, firstMapping, piecesIn}
 use Rattle.ecigar.specs.Spliced.{Apart, lastPiece}
-use Rattle.ecigar.proofs.SplicedLaws.{PositionFits}
+use Rattle.tables.proofs.SplicedLaws.{PositionFits}
 use Rattle.bases.specs.Spliced.{pieceRefusal}
 use Rattle.pieces.specs.Place.{placeRefusal}
 use Rattle.pieces.specs.Placed.{pieceOut, placedPiece, leastBehind, piecesRefusal}

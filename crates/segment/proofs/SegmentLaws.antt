@@ -20,10 +20,9 @@ use Rattle.edits.specs.Lengths.{mostRead, mappedLength}
 use Rattle.edits.specs.Edits.{blockEdits}
 use Rattle.edits.specs.Pieces.{lessFirst, lastLength}
 use Rattle.edits.proofs.EditLaws.{length-edits}
-use Rattle.splices.specs.code.Mapping.{positionsFrom}
-use Rattle.splices.specs.code.Walk.{lengthsIn, firstMapping, piecesIn}
+use Rattle.splices.specs.Located.{positionsFrom, lengthsIn, firstMapping, piecesIn}
 use Rattle.ecigar.specs.Spliced.{ClipsLeave}
-use Rattle.ecigar.proofs.SplicedLaws.{PositionFits, clipped-length, read-within, pieces-edits}
+use Rattle.tables.proofs.SplicedLaws.{PositionFits, clipped-length, read-within, pieces-edits}
 use Rattle.bases.proofs.SplicedLaws.{length-readBases}
 use Rattle.pieces.specs.Placed.{piecesRefusal}
 use Rattle.pieces.specs.code.Written.{Standing}

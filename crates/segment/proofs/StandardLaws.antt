@@ -27,15 +27,14 @@ use Rattle.edits.proofs.PieceLaws.{PieceSound}
 use Rattle.edits.proofs.FlankLaws.{and-both, some-base, each-holds}
 use Rattle.edits.proofs.FlankPieceLaws.{fronted, DeletedBelow, flanked-front, flanked-back, flanked-least, flanked-below, pieces-uninserted, pieces-below, first-least, first-fronted, last-backed}
 use Rattle.edits.specs.code.Flank.{backed}
-use Rattle.splices.specs.code.Mapping.{positionsFrom}
-use Rattle.splices.specs.code.Walk.{lengthsIn, firstMapping, piecesIn}
+use Rattle.splices.specs.Located.{positionsFrom, lengthsIn, firstMapping, piecesIn}
 use Rattle.ecigar.specs.Table90.{movesRead, movesReference, total, printAll, AllPositive}
 use Rattle.ecigar.specs.Ecigar.{OfItsClass}
 use Rattle.ecigar.specs.Spliced.{readText, Apart, lastPiece, piecesEdits}
-use Rattle.ecigar.specs.Longest.{longestPlain, longestSpliced}
-use Rattle.ecigar.proofs.OperationLaws.{ClipsFit}
-use Rattle.ecigar.proofs.SplicedLaws.{clipped-length, read-positive, read-read, read-reference, pieces-edits}
-use Rattle.ecigar.proofs.ShortLaws.{EndFits, one-short, read-short}
+use Rattle.tables.specs.Longest.{longestPlain, longestSpliced}
+use Rattle.ecigar.proofs.LengthLaws.{ClipsFit}
+use Rattle.tables.proofs.SplicedLaws.{clipped-length, read-positive, read-read, read-reference, pieces-edits}
+use Rattle.tables.proofs.ShortLaws.{EndFits, one-short, read-short}
 use Rattle.bases.specs.Alignment.{LiesOn}
 use Rattle.bases.specs.Reference.{isLent, lentSymbol, baseAt, baseRefusal}
 use Rattle.bases.proofs.SplicedLaws.{length-readBases, spliced-under-match, spliced-of-edit, spliced-left, spliced-right, from-some-piece, matched-place, matched-fine, edited-symbol}
@@ -44,7 +43,7 @@ use Rattle.pieces.specs.Placed.{piecesRefusal}
 use Rattle.block.specs.Aligned.{alignedAt}
 use Rattle.block.specs.Unaligned.{unalignedAt}
 use Rattle.segment.specs.Segment.{blockPieces, placement, placedSegment, placed, afterBlock, placedAt, afterPlain, plainAt}
-use Rattle.segment.specs.Listed.{listedBases, listedEcigar, listedOperations, editsIn, piecesAt, mappedIn, table94, Matches, Brought, Lies, Deleted, Letter, InUnit, Follow}
+use Rattle.segment.specs.Listed.{listedBases, listedEcigar, listedOperations, editsIn, piecesAt, mappedIn, table92, Matches, Brought, Lies, Deleted, Letter, InUnit, Follow}
 use Rattle.segment.specs.code.Ready.{Pieced}
 use Rattle.block.specs.declared.head.BlockHead.{BlockHead}
 use Rattle.block.specs.code.Ready.{ReadyHead}
@@ -61,7 +60,7 @@ use Rattle.segment.specs.declared.SegmentRead.{SegmentRead}
 use Rattle.segment.specs.declared.SegmentRead.the-variants.{Whole}
 use Rattle.block.proofs.ReadyLaws.{ReadyBlock, of-its-class, block-ready}
 use Rattle.segment.proofs.OneLaws.{onlyPiece, only-piece}
-use Rattle.segment.proofs.PiecedLaws.{length-positions, all-sound, all-span, text-is-table94}
+use Rattle.segment.proofs.PiecedLaws.{length-positions, all-sound, all-span, text-is-table94, text-is-table92}
 use Rattle.segment.proofs.PlacedLaws.{AllPlaced, all-placed, placed-each, placed-apart, placed-last, Begins, begins, placed-begins, pieces-few}
 use Rattle.segment.proofs.SegmentLaws.{pieced-ready}
 
@@ -234,8 +233,8 @@ module _ (u : Unit) (reference symbols frame : List ℕ) (q : Placed) (a : Segme
   unfolding Follow
   listed-apart = rw (start .are) apart
 
-  pub listed-is-table94 : listedEcigar u symbols frame q ≡ table94 u symbols frame q
-  listed-is-table94 = refl
+  pub listed-is-table92 : q .splices .count ≡ 1 → listedEcigar u symbols frame q ≡ table92 u frame q
+  listed-is-table92 = text-is-table92 u symbols frame q (a .class) (a .pieced)
 
   pub listed-operations : listedEcigar u symbols frame q ≡ printAll (listedOperations u symbols frame q)
   unfolding readText

@@ -13,7 +13,7 @@ use Rattle.unit.specs.declared.Unit.{Unit}
 use Rattle.ecigar.specs.Table90.{printAll}
 use Rattle.ecigar.specs.Ecigar.{ecigarText, leftClip, rightClip}
 use Rattle.ecigar.specs.Spliced.{readText}
-use Rattle.ecigar.proofs.SplicedLaws.{read-parts}
+use Rattle.tables.proofs.SplicedLaws.{read-parts}
 use Rattle.bases.specs.Bases.{lettersAt, basesText}
 use Rattle.bases.specs.Spliced.{piecesBases, readBases}
 use Rattle.pieces.specs.code.Checked.{operationsBehind}

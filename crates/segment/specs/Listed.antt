@@ -14,7 +14,7 @@ use Rattle.ecigar.specs.Table90.{Operation}
 use Rattle.ecigar.specs.Spliced.{readOperations, Apart}
 use Rattle.bases.specs.Alignment.{MatchedIn, EditedIn, LiesOn}
 use Rattle.segment.specs.declared.Placed.{Placed}
-pub use Rattle.segment.specs.Segment.{editsIn, piecesAt, basesListed, table94}
+pub use Rattle.segment.specs.Segment.{editsIn, piecesAt, basesListed, table92, table94}
 
 -- ---- as it is listed (`alignedBytes`)
 

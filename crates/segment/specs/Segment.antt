@@ -11,9 +11,9 @@ use Rattle.unit.specs.declared.Unit.{Unit}
 use Rattle.edits.specs.declared.edit.Edit.{Edit}
 use Rattle.edits.specs.Edits.{blockEdits}
 use Rattle.edits.specs.Pieces.{Piece}
-use Rattle.splices.specs.code.Walk.{lengthsIn, piecesIn}
-use Rattle.ecigar.specs.Table92.{offsetsOf, lettersIn, typesOf}
-use Rattle.ecigar.specs.Table94.{splicedEcigarString, splicedSegsFrom}
+use Rattle.splices.specs.Located.{lengthsIn, piecesIn}
+use Rattle.tables.specs.Table92.{ecigarString, offsetsOf, lettersIn, typesOf}
+use Rattle.tables.specs.Table94.{splicedEcigarString, splicedSegsFrom}
 use Rattle.ecigar.specs.Spliced.{readText}
 use Rattle.bases.specs.Bases.{lettersAt}
 use Rattle.bases.specs.Spliced.{readBases}
@@ -107,6 +107,13 @@ table94 u symbols frame p =
     splicedEcigarString (u .class) (p .block .length) (p .block .edits)
     (offsetsOf (editsIn u frame p)) (lettersIn (u .alphabet) (editsIn u frame p)) (typesOf (editsIn u frame p))
     (p .splices .count) (splicedSegsFrom (p .block .rcomp) 0 (lengthsOf frame p) (piecesAt u symbols frame p))
+    (leftSoftClips u frame p) (rightSoftClips u frame p) (p .block .clips .«left_hard») (p .block .clips .«right_hard»)
+
+-- of a read in one piece, ecigarString of Table 92
+abbrev pub table92 : Unit → (frame : List ℕ) → Placed → List ℕ
+table92 u frame p =
+    ecigarString (u .class) (p .block .length) (p .block .edits)
+    (offsetsOf (editsIn u frame p)) (lettersIn (u .alphabet) (editsIn u frame p)) (typesOf (editsIn u frame p))
     (leftSoftClips u frame p) (rightSoftClips u frame p) (p .block .clips .«left_hard») (p .block .clips .«right_hard»)
 
 -- its bases on the forward strand (Table 43: softClips[0], the mapped bases of its pieces, softClips[1]); rcomp is passed through and turns nothing

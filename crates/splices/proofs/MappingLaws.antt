@@ -18,7 +18,7 @@ use Rattle.taking.proofs.Taking.{take-cases, raised-other, raised-same, raised-
 use Rattle.taking.proofs.Decoding.{then-came}
 use Rattle.edits.specs.Pieces.{SignedPosition, straight, onwards}
 use Rattle.splices.specs.Table62.{byDelta, same-rec-short, same-rec-long, table62, nextMappingPos, splicedSegMappingPos}
-use Rattle.splices.specs.code.Mapping.{symbolAt, positionIn, mappingOf, following, positionsFrom}
+use Rattle.splices.specs.Located.{symbolAt, positionIn, mappingOf, following, positionsFrom}
 use Rattle.splices.specs.declared.mapping.Mapping.{Mapping}
 
 -- where a piece at a position maps, and its next symbols stand

@@ -24,8 +24,8 @@ use Rattle.edits.proofs.PieceLaws.{edit-offset, before-first, behind-rest, befo
 use Rattle.splices.specs.declared.Splices.{Splices}
 use Rattle.splices.specs.declared.mapping.Mapping.{Mapping}
 use Rattle.splices.specs.declared.walk.PieceWalk.{PieceWalk}
-use Rattle.splices.specs.code.Mapping.{positionIn, following, positionsFrom}
-use Rattle.splices.specs.code.Walk.{lengthsIn, firstMapping, editsTo, piecesIn, cutPiece, firstPiece, runBehind, nextPiece, pieceHere, piecesLeft}
+use Rattle.splices.specs.Located.{positionIn, following, positionsFrom, lengthsIn, firstMapping, piecesIn}
+use Rattle.splices.specs.code.Walk.{editsTo, cutPiece, firstPiece, runBehind, nextPiece, pieceHere, piecesLeft}
 
 -- ---- how many edits stand before an offset does not depend on the alphabet
 

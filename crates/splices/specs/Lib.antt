@@ -1,2 +1,3 @@
 pub mod Table62
+pub mod Located
 pub mod code

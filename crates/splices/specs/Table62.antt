@@ -1,6 +1,8 @@
 -- Table 62 of the standard: decoding process of the pair descriptor subsequences for spliced reads, for one segment i of a record of class I or HM.
 -- One definition a decoding case, under the page's names (`same-rec-short` is the page's same_rec_short). How to read a case: taking's Steps.
 -- Its outer loop, for(i = 0; i < numberOfAlignedRecordSegments; i++), is the aligned blocks of the record: each takes its symbols behind its last length.
+-- The loop before it, which sets splicedSegMappingPos[i][0], runs to numberOfMappedRecordSegments: by 10.4.10 the same number, but in class U with a
+-- computed reference, which document 01 leaves out.
 -- What the page says oddly: prevSpliceMappingEnd is the piece's position plus its length in the READ (soft clips and insertions count, deletions do not), while Table 94
 -- counts a splice from what the piece takes of the REFERENCE. The sign of delta is the low bit, so a delta of 0 may have either sign. Table 59 calls a distance of up to 65,535
 -- short, but a delta has 15 bits. Code 1, splice_diff_ref_seq of Table 59, has no case here: with every other value it is reserved.

@@ -4,7 +4,8 @@ pub mod take;
 pub mod walk;
 
 ghost use mathlib.Core.Path.{_≡_};
-ghost use Rattle.splices.specs.code.Walk.{unspliced, NarrowSplices};
+ghost use Rattle.splices.specs.Located.{unspliced};
+ghost use Rattle.splices.specs.code.Walk.{NarrowSplices};
 
 // How many pieces a read has, where their lengths stand in the frame, and where their symbols stand: how many of subsequences 0, 1 and 3 are taken before them.
 pub struct Splices {

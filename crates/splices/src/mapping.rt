@@ -4,7 +4,8 @@ ghost use mathlib.Core.Path.{_≡_};
 ghost use Prim.Native.Nat.{ℕ, suc, _+_, _^_, _<_, _≤_};
 ghost use Rattle.edits.specs.Pieces.{onwards};
 ghost use Rattle.splices.specs.Table62.{byDelta};
-ghost use Rattle.splices.specs.code.Mapping.{symbolAt, positionIn, mappingOf, following, RoomFor};
+ghost use Rattle.splices.specs.Located.{symbolAt, positionIn, mappingOf, following};
+ghost use Rattle.splices.specs.code.Mapping.{RoomFor};
 
 // A piece's position, `above` less `below` since a distance may lead below 0; and how many symbols of subsequences 0, 1 and 3 are behind it.
 pub struct Mapping {

@@ -10,7 +10,7 @@ use Rattle.frame.specs.Field.{bigAt}
 use Rattle.unit.specs.Unit.{classI}
 use Rattle.edits.specs.Lengths.{mostRead}
 use Rattle.edits.specs.Pieces.{sumOf}
-use Rattle.splices.specs.code.Walk.{unspliced, lengthsIn}
+use Rattle.splices.specs.Located.{unspliced, lengthsIn}
 use Rattle.splices.specs.declared.Splices.{Splices}
 use Rattle.block.specs.Checked.{mostRcomp}
 use Rattle.block.specs.declared.head.BlockHead.{BlockHead}

@@ -1,7 +1,7 @@
 -- `segment::with_clips` meets its contract: two clips of 16 bits have few characters. Assumes nothing.
 use mathlib.Core.Path.{ap}
 use native.Mathlib.Omega.{arith}
-use Rattle.ecigar.proofs.OperationLaws.{ClipsFit, clips-most}
+use Rattle.ecigar.proofs.LengthLaws.{ClipsFit, clips-most}
 use borrow.Author.Needs.{needs}
 use Rattle.segment.proofs.with_clips.Statement.{statement}
 use Rattle.segment.proofs.with_clips.Tie as tie

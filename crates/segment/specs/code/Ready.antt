@@ -14,7 +14,7 @@ use Rattle.edits.specs.Pieces.{sumOf, EachPiece}
 use Rattle.edits.specs.declared.Block.{Block}
 use Rattle.edits.proofs.PieceLaws.{NoneZero}
 use Rattle.splices.specs.declared.Splices.{Splices}
-use Rattle.splices.specs.code.Walk.{unspliced, lengthsIn}
+use Rattle.splices.specs.Located.{unspliced, lengthsIn}
 use Rattle.ecigar.specs.Ecigar.{ecigarText, OfItsClass}
 use Rattle.ecigar.specs.Spliced.{ClipsLeave}
 use Rattle.pieces.specs.code.Written.{Standing, Ordered}

@@ -8,20 +8,16 @@ use lib.Dec.{ltb}
 use lib.ListN.{length}
 use Rattle.frame.specs.Field.{bigAt}
 use Rattle.state.specs.Listed.{wordsAt}
-use Rattle.edits.specs.Edits.{widthOf, editsAt, blockEdits}
-use Rattle.edits.specs.Lengths.{mappedLength}
-use Rattle.edits.specs.Pieces.{SignedPosition, straight, Piece, editsBefore, piecesFrom, piecesOf}
+use Rattle.edits.specs.Edits.{widthOf, editsAt}
+use Rattle.edits.specs.Pieces.{Piece, editsBefore, piecesFrom}
 use Rattle.edits.specs.code.Runs.{runOf}
 use Rattle.edits.specs.declared.Block.{Block}
 use Rattle.edits.specs.declared.Run.{Run}
 use Rattle.splices.specs.declared.Splices.{Splices}
 use Rattle.splices.specs.declared.mapping.Mapping.{Mapping}
 use Rattle.splices.specs.declared.walk.PieceWalk.{PieceWalk}
-use Rattle.splices.specs.code.Mapping.{positionIn, mappingOf, following, positionsFrom, RoomFor}
-
--- one piece, in the classes that have no splices
-abbrev pub unspliced : Splices
-unspliced = record { count = 1; «lengths_at» = 0; codes = 0; deltas = 0; places = 0 }
+use Rattle.splices.specs.Located.{positionIn, following, positionsFrom, firstMapping}
+use Rattle.splices.specs.code.Mapping.{RoomFor}
 
 -- its numbers fit 32 bits
 pub record NarrowSplices (s : Splices) : Type 0 where
@@ -29,23 +25,9 @@ pub record NarrowSplices (s : Splices) : Type 0 where
   pub deltas : s .deltas < 2 ^ 32
   pub places : s .places < 2 ^ 32
 
--- splicedSegLength: the lengths of a read's pieces, as they stand in the frame
-abbrev pub lengthsIn : (frame : List ℕ) → Splices → List ℕ
-lengthsIn frame s = wordsAt (s .count) frame (s .«lengths_at»)
-
--- where its first piece maps, and where the symbols of the others stand
-abbrev pub firstMapping : Splices → (position : ℕ) → Mapping
-firstMapping s position = mappingOf (straight position) (s .codes) (s .deltas) (s .places)
-
 -- how many of a run's edits stand before an offset (the same in every alphabet)
 abbrev pub editsTo : (class : ℕ) (frame : List ℕ) → Run → (offset : ℕ) → ℕ
 editsTo class frame run offset = length (editsBefore offset (editsAt class 0 frame (run .edits) (run .«edits_at»)))
-
--- THE PIECES OF A READ at a position, with its lengths in the frame and its symbols in the table
-unfoldable pub piecesIn : (class alphabet : ℕ) (frame symbols : List ℕ) → Block → Splices → (position : ℕ) → List Piece
-piecesIn class alphabet frame symbols b s position =
-    piecesOf (mappedLength (b .length) (b .clips)) (b .clips .«left_soft») (blockEdits class alphabet frame b) (lengthsIn frame s)
-    (positionsFrom symbols (firstMapping s position) (lengthsIn frame s))
 
 -- ---- one by one
 

@@ -5,7 +5,7 @@ use mathlib.Core.Path.{_≡_, sym, ap, _∙_}
 use native.Mathlib.Omega.{arith}
 use Rattle.block.proofs.Steps.{blockSteps}
 use Rattle.edits.proofs.EditLaws.{edits-bytes}
-use Rattle.ecigar.proofs.OperationLaws.{ClipsFit, clips-most, text-most}
+use Rattle.ecigar.proofs.LengthLaws.{ClipsFit, clips-most, text-most}
 use Rattle.ecigar.proofs.CheckLaws.{checked-fine, behind-fits}
 use Rattle.edits.specs.Lengths.{mappedLength}
 use Rattle.edits.specs.declared.Run.{Run}

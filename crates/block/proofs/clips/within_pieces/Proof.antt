@@ -3,7 +3,7 @@ use denote.Ref.{now}
 use mathlib.Core.Path.{_≡_, sym, _∙_}
 use native.Mathlib.Omega.{arith}
 use Rattle.edits.specs.Pieces.{lastLength}
-use Rattle.splices.specs.code.Walk.{lengthsIn}
+use Rattle.splices.specs.Located.{lengthsIn}
 use Rattle.block.specs.Clips.{clipsInPieces}
 use Rattle.block.proofs.LengthLaws.{last-length, length-inside}
 use Rattle.block.proofs.Steps.{clip-reaches, clip-below}

@@ -3,7 +3,7 @@ use borrow.Author.Needs.{needs}
 use native.Mathlib.Omega.{arith}
 use mathlib.Core.Path.{sym}
 use lib.ListN.{length-append}
-use Rattle.ecigar.proofs.SplicedLaws.{length-splice, splice-forward, splice-reverse, splice-undirected}
+use Rattle.ecigar.proofs.SpliceLaws.{length-splice, splice-forward, splice-reverse, splice-undirected}
 use Rattle.writing.proofs.LayLaws.{laid-as}
 use Rattle.ecigar.proofs.splice.put_splice.Statement.{statement}
 use Rattle.ecigar.proofs.splice.put_splice.Tie as tie

@@ -1,5 +1,6 @@
 -- `edits::edit::offset_at` meets its contract: two bytes, `offset-bytes`. Assumes nothing.
 use Rattle.edits.proofs.EditLaws.{offset-bytes}
+use mathlib.Core.Path.{sym}
 use borrow.Author.Needs.{needs}
 use Rattle.edits.proofs.edit.offset_at.Statement.{statement}
 use Rattle.edits.proofs.edit.offset_at.Tie as tie
@@ -26,7 +27,7 @@ add-result : tie.Need-add-result
 add-result c = search needs
 
 returns : tie.Need-returns
-returns c = cc (offset-bytes _ _)
+returns c = rw (c .before .before .wide .ensures .0, c .wide2 .ensures .0) (sym (offset-bytes _ _))
 
 pub offset-at-spec : {M : Type 1} → statement M
 offset-at-spec =

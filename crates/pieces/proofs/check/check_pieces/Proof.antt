@@ -6,7 +6,8 @@ use denote.Ref.{now}
 use Rattle.edits.specs.Pieces.{Piece}
 use Rattle.edits.specs.declared.Run.{Run}
 use Rattle.splices.specs.declared.walk.PieceWalk.{PieceWalk}
-use Rattle.splices.specs.code.Walk.{piecesLeft, piecesIn}
+use Rattle.splices.specs.Located.{piecesIn}
+use Rattle.splices.specs.code.Walk.{piecesLeft}
 use Rattle.splices.specs.code.Mapping.{RoomFor}
 use Rattle.splices.proofs.WalkLaws.{begin-kept}
 use Rattle.pieces.specs.code.Checked.{piecesFound, Walking}
@@ -61,7 +62,7 @@ check-piece-requires-2 : tie.Need-check-piece-requires-2 Inv-loop μ-loop
 check-piece-requires-2 c κs = walking-ready _ _ _ _ _ _ (c .before .loop .inv .1 .0)
 
 returns-2 : tie.Need-returns-2 Inv-loop μ-loop
-returns-2 c = last-out _ _ _ _ _ _ (c .before .before .before .before .loop .inv .1 .0) _ _ _ (c .before .before .check-piece2 .ensures .0) (omega (arith, c .before .before .before .before .loop .inv .0, c .before .before .before .loop-test .left)) (c .if2 .taken) ∙ c .before .before .before .before .loop .inv .1 .1 .1 ∙ begun-whole _ _ _ _ _ _ _ (c .before .before .before .before .before .first-piece .ensures) (c .before .before .before .before .before .before .run-of .ensures) (c .before .before .before .before .before .before .before .before .before .before .pre .least)
+returns-2 c = last-out _ _ _ _ _ _ (c .before .before .before .before .loop .inv .1 .0) _ _ _ (c .before .before .check-piece2 .ensures .0) (omega (arith, c .before .before .before .before .loop .inv .0, c .before .before .before .loop-test .left)) (λ z. omega (arith, c .if2 .taken)) ∙ c .before .before .before .before .loop .inv .1 .1 .1 ∙ begun-whole _ _ _ _ _ _ _ (c .before .before .before .before .before .first-piece .ensures) (c .before .before .before .before .before .before .run-of .ensures) (c .before .before .before .before .before .before .before .before .before .before .pre .least)
 
 add-t17 : tie.Need-add-t17 Inv-loop μ-loop
 add-t17 c = omega (arith, c .before .before .before .check-piece2 .ensures .1 .0, c .before .before .before .before .before .loop .inv .1 .1 .0)

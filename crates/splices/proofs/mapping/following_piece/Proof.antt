@@ -1,7 +1,7 @@
 -- `splices::mapping::following_piece` meets its contract: the code picks the case. Assumes nothing.
 use mathlib.Core.Path.{refl}
 use native.Mathlib.Omega.{arith}
-use Rattle.splices.specs.code.Mapping.{following}
+use Rattle.splices.specs.Located.{following}
 use borrow.Author.Tests.{eq-eqb, ne-eqb}
 use borrow.Author.Needs.{needs}
 use Rattle.splices.proofs.mapping.following_piece.Statement.{statement}

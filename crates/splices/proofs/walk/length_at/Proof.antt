@@ -26,7 +26,7 @@ add-result : tie.Need-add-result
 add-result c = omega (arith, c .before .byte-at .ensures .1, c .byte-at2 .ensures .1)
 
 returns-2 : tie.Need-returns-2
-returns-2 c = (cc (offset-bytes _ _), omega (arith, c .before .byte-at .ensures .1, c .byte-at2 .ensures .1))
+returns-2 c = (rw (c .before .byte-at .ensures .0, c .byte-at2 .ensures .0) (sym (offset-bytes _ _)), omega (arith, c .before .byte-at .ensures .1, c .byte-at2 .ensures .1))
 
 pub length-at-spec : {M : Type 1} → statement M
 length-at-spec =

@@ -5,7 +5,7 @@ use mathlib.Core.Path.{_≡_, ap, _∙_}
 use native.Mathlib.Omega.{arith}
 use native.Mathlib.Nat.{add-mul}
 use Rattle.edits.specs.Edits.{widthOf}
-use Rattle.splices.specs.code.Mapping.{following}
+use Rattle.splices.specs.Located.{following}
 use Rattle.splices.specs.code.Walk.{nextPiece}
 use Rattle.splices.proofs.WalkLaws.{cut-mapping}
 use borrow.Author.Needs.{needs}

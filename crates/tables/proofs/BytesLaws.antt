@@ -11,14 +11,12 @@ use Rattle.writing.specs.Decimal.{decimalF, decimal}
 use Rattle.writing.proofs.DecimalLaws.{bytes-digits}
 use Rattle.alphabet.specs.Table35.{letterOf}
 use Rattle.alphabet.proofs.AlphabetLaws.{letter-byte}
-use Rattle.edits.specs.Edits.{substitution, insertion, deletion, blockEdits}
-use Rattle.edits.specs.Lengths.{mappedLength}
+use Rattle.edits.specs.Edits.{substitution, insertion, deletion}
 use Rattle.edits.specs.declared.edit.Edit.{Edit}
-use Rattle.edits.specs.declared.Block.{Block}
 use Rattle.ecigar.specs.Table90.{Operation, matched, substituted, inserted, deleted, softClipped, hardClipped, counted, print, printAll}
-use Rattle.ecigar.specs.Ecigar.{joinsRun, past, matches, openRun, gap, mark, ending, operationsFrom, clip, leftClip, blockOperations, setOut, ecigarText}
+use Rattle.ecigar.specs.Ecigar.{joinsRun, past, matches, openRun, gap, mark, ending, operationsFrom, clip}
 use Rattle.ecigar.specs.declared.walk.Walk.{Walk}
 use Rattle.ecigar.proofs.PrintLaws.{printed-append, printed-one}
 
 -- ---- operations, as they are printed
 
@@ -73,11 +71,3 @@ unfolding clip
 clip-prints soft hard =
     one-of Prints (not (eqb soft 0)) _ _ (one-prints (softClipped soft) (bytes-bracketed _ soft _ (lit< tt) (lit< tt)))
     (one-of Prints (not (eqb hard 0)) _ _ (one-prints (hardClipped hard) (bytes-bracketed _ hard _ (lit< tt) (lit< tt))) no-prints)
-
-pub bytes-ecigar : (class alphabet : ℕ) (frame : List ℕ) (s : Block) → Bytes (ecigarText class alphabet frame s)
-unfolding ecigarText blockOperations
-bytes-ecigar class alphabet frame s =
-    let middle = operationsFrom alphabet (mappedLength (s .length) (s .clips)) setOut (blockEdits class alphabet frame s) in
-    both-print (leftClip (s .clips) ++ middle) _
-    (both-print (leftClip (s .clips)) middle (clip-prints _ _) (operations-print alphabet _ setOut _))
-    (clip-prints _ _)

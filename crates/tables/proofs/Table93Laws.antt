@@ -16,13 +16,13 @@ use Rattle.alphabet.specs.Table35.{letterOf}
 use Rattle.edits.specs.Edits.{substitution, insertion, deletion, nextOffset, Sound}
 use Rattle.edits.specs.declared.edit.Edit.{Edit}
 use Rattle.edits.proofs.EditLaws.{EditAccepted, sound-tail, next-deletion, next-other, sound-accepted}
 use Rattle.ecigar.specs.declared.walk.Walk.{Walk}
 use Rattle.ecigar.specs.Table90.{counted, equalsSign, plusSign, minusSign, printAll}
 use Rattle.ecigar.specs.Ecigar.{setOut, joinsRun, past, matches, openRun, gap, mark, operationsFrom}
-use Rattle.ecigar.specs.Table93.{item, withMatch, mismatchLoop, IndelRun, insertionLoop, deletionLoop, indelLoop}
+use Rattle.tables.specs.Table93.{item, withMatch, mismatchLoop, IndelRun, insertionLoop, deletionLoop, indelLoop}
 use Rattle.ecigar.proofs.PrintLaws.{printed-append}
 use Rattle.ecigar.proofs.WalkLaws.{matches-none, matches-some, closed-insertion, closed-deletion, closed-none, gap-joined, gap-apart, mark-letter, mark-none, text-on, text-end, ending-both, past-next, past-kind, past-joined, past-apart, joins-same, joins-not, apart-letter}
-use Rattle.ecigar.specs.Table92.{offsetsOf, lettersIn, typesOf}
+use Rattle.tables.specs.Table92.{offsetsOf, lettersIn, typesOf}
 
 -- ---- the edits from index i on
 

@@ -10,8 +10,8 @@ use lib.ListN.{length}
 use Rattle.unit.specs.Unit.{classP, classN, classM, classI, classHM}
 use Rattle.alphabet.specs.Table35.{letterOf}
 use Rattle.edits.specs.declared.edit.Edit.{Edit}
 use Rattle.ecigar.specs.Table90.{roundOpen, roundClose, squareOpen, squareClose}
-use Rattle.ecigar.specs.Table93.{inttostr, decodeECigarMismatches}
+use Rattle.tables.specs.Table93.{inttostr, decodeECigarMismatches}
 
 -- if(strlen(leftSoftClips) != 0) ecigar = strcat('(', inttostr(strlen(leftSoftClips)), ')', ecigar)
 -- else if(leftHardClips != 0) ecigar = strcat('[', inttostr(leftHardClips), ']', ecigar)

@@ -3,6 +3,7 @@
 -- Of the page: reverseComp's indexes are spliced segment, segment, 0 here, and spliced segment, mapping, segment in Table 45; the first mapping's is meant.
 -- The sign of an undirected splice stands there as "***", in Table 90 as *, which it is. A brace is lost behind two tests of reverseComp, and a bracket in each
 -- clip: the clips are Table 92's. Where a spliced segment has no mismatches mmEndIdx is mmStartIdx - 1: [mmStartIdx, mmEndIdx] is then empty.
+-- splicedSegMappedLength is cited from 10.4.9 (Table 56: the length less the soft clips); meant is the array as Table 51 leaves it, less the insertions and with the deletions (edits, Pieces).
 -- No difference here is below 0 in a read that is accepted: a spliced segment keeps a base beside its clips (refusal 9), and spliceOffset is at least 1 (refusal 13).
 -- Assumes nothing.
 use Prim.Native.Nat.{ℕ, zero, suc, _+_, _-_}
@@ -14,9 +15,9 @@ use Rattle.unit.specs.Unit.{classP, classN, classM, classI, classHM}
 use Rattle.edits.specs.Pieces as edits
 use Rattle.edits.specs.Pieces.{Piece, beginsAt}
 use Rattle.edits.specs.declared.edit.Edit.{Edit}
 use Rattle.ecigar.specs.Table90.{slashSign, percentSign, starSign}
-use Rattle.ecigar.specs.Table93.{inttostr, decodeECigarMismatches}
-use Rattle.ecigar.specs.Table92.{leftClipped, rightClipped}
+use Rattle.tables.specs.Table93.{inttostr, decodeECigarMismatches}
+use Rattle.tables.specs.Table92.{leftClipped, rightClipped}
 
 -- the items [s][i] of the arrays of spliced segments; of reverseComp, [i][s][0]
 pub record SplicedSeg : Type 0 where

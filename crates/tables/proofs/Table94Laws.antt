@@ -21,16 +21,17 @@ use Rattle.edits.specs.declared.edit.Edit.{Edit}
 use Rattle.edits.specs.declared.Clips.{Clips}
 use Rattle.edits.proofs.EditLaws.{sound-accepted, sound-tail, edit-accepted, next-least}
 use Rattle.edits.proofs.PieceLaws.{PieceSound, NoneZero, before-behind}
 use Rattle.ecigar.specs.declared.walk.Walk.{Walk}
 use Rattle.ecigar.specs.Table90.{slashSign, percentSign, starSign, printAll}
 use Rattle.ecigar.specs.Ecigar.{setOutAt, setOut, joinsRun, past, openRun, gap, mark, ending, operationsFrom, ecigarOf, leftClip, rightClip}
 use Rattle.ecigar.specs.Spliced.{spliceOf, pieceOperations, splicesFrom, piecesOperations, readText, ClipsLeave}
-use Rattle.ecigar.specs.Table93.{inttostr, decodeECigarMismatches}
-use Rattle.ecigar.specs.Table92.{ecigarString, offsetsOf, lettersIn, typesOf}
-use Rattle.ecigar.specs.Table94.{SplicedSeg, segAt, between, unclippedLength, spliceOffset, withSplice, decodeSplicedSeg, splicedLoop, splicedEcigarString, splicedSegOf, splicedSegsFrom}
+use Rattle.tables.specs.Table93.{inttostr, decodeECigarMismatches}
+use Rattle.tables.specs.Table92.{ecigarString, offsetsOf, lettersIn, typesOf}
+use Rattle.tables.specs.Table94.{SplicedSeg, segAt, between, unclippedLength, spliceOffset, withSplice, decodeSplicedSeg, splicedLoop, splicedEcigarString, splicedSegOf, splicedSegsFrom}
 use Rattle.ecigar.proofs.WalkLaws.{past-next}
-use Rattle.ecigar.proofs.Table92Laws.{table93-edits, is-indel, left-text, right-text}
-use Rattle.ecigar.proofs.SplicedLaws.{splice-forward, splice-reverse, splice-undirected, read-parts, pieces-none, pieces-parts, splices-none, splices-parts, clipped-sum, clipped-any, clipped-length, pieces-of-sound}
+use Rattle.tables.proofs.Table92Laws.{table93-edits, is-indel, left-text, right-text}
+use Rattle.ecigar.proofs.SpliceLaws.{splice-forward, splice-reverse, splice-undirected}
+use Rattle.tables.proofs.SplicedLaws.{read-parts, pieces-none, pieces-parts, splices-none, splices-parts, clipped-sum, clipped-any, clipped-length, pieces-of-sound}
 
 -- ---- offsets that are all less by the same: the walk is the same
 
@@ -189,9 +190,9 @@ measured-tail rightSoft n (l ∷ ns) p ps m = m .1
 measured-length : (number leftSize rightSize i n m : ℕ) (ns : List ℕ) (p : Piece) (ps : List Piece) → m ≡ cond (eqb i 0) (n - leftSize) n → Measured rightSize (m ∷ ns) (p ∷ ps)
     → i + length (m ∷ ns) ≡ number → unclippedLength number leftSize rightSize i n ≡ p .until - p .start
 unfolding Measured unclippedLength
-measured-length number leftSize rightSize i n m [] p [] q w c = rw (← q, eq-eqb i (number - 1) (omega arith)) w
+measured-length number leftSize rightSize i n m [] p [] q w c = rw (eq-eqb i (number - 1) (omega arith)) (ap (λ (x : ℕ). x - rightSize) (sym q) ∙ w)
 measured-length number leftSize rightSize i n m [] p (r ∷ ps) q w c = absurd w
-measured-length number leftSize rightSize i n m (l ∷ ns) p ps q w c = rw (← q, ne-eqb i (number - 1) (λ z. omega arith)) (w .0)
+measured-length number leftSize rightSize i n m (l ∷ ns) p ps q w c = rw (ne-eqb i (number - 1) (λ z. omega arith)) (sym q ∙ w .0)
 
 -- the edits of all pieces, one behind the other
 unfoldable pub allEdits : List Piece → List Edit

@@ -1,33 +1,23 @@
--- The laws of a segment's operations: no count is 0, they move r by the read length and R by the positions taken, and their text is never too long.
+-- The laws of the operations of edits and of clips: no count is 0, and how far they move r and R.
 -- Assumes nothing.
 use mathlib.Core.Path.{_≡_, refl, sym, ap, _∙_}
 use mathlib.Core.Bool.{true, false, cond}
-use mathlib.Core.Logic.{inl, inr, ⊎-elim}
+use mathlib.Core.Logic.{inr, ⊎-elim}
 use mathlib.Core.List.{List, [], _∷_, _++_}
-use Prim.Native.Nat.{ℕ, _+_, _-_, _*_, _^_, _<_, _≤_}
+use Prim.Native.Nat.{ℕ, _+_, _-_, _≤_}
 use native.Mathlib.Omega.{arith}
-use native.Mathlib.Nat.{zero-add, add-zero, add-assoc, sub-zero}
+use native.Mathlib.Nat.{zero-add, add-zero, add-assoc}
 use borrow.Author.Tests.{eq-eqb, ne-eqb, eqb-true, eqb-false}
 use lib.Dec.{eqb}
-use lib.ListN.{length, length-append}
 use Rattle.frame.proofs.HexLaws.{by-test}
-use Rattle.writing.proofs.DecimalLaws.{digits-short}
-use Rattle.alphabet.specs.Table35.{sizeOf, letterOf}
-use Rattle.edits.specs.Edits.{substitution, insertion, deletion, nextOffset, editsAt, Sound, takenFrom, blockEdits}
-use Rattle.edits.specs.Lengths.{mostRead, mostEdits, mostEcigar, softBases, mappedLength}
+use Rattle.alphabet.specs.Table35.{letterOf}
+use Rattle.edits.specs.Edits.{substitution, insertion, deletion, nextOffset, Sound, takenFrom}
 use Rattle.edits.specs.declared.edit.Edit.{Edit}
-use Rattle.edits.specs.declared.Clips.{Clips}
-use Rattle.edits.specs.declared.Block.{Block}
-use Rattle.edits.proofs.EditLaws.{EditAccepted, sound-tail, next-deletion, next-other, length-edits, sound-accepted}
+use Rattle.edits.proofs.EditLaws.{EditAccepted, sound-tail, next-deletion, next-other, sound-accepted}
 use Rattle.ecigar.specs.declared.walk.Walk.{Walk}
-use Rattle.ecigar.specs.declared.check.EditsChecked.the-variants.{Fine}
-use Rattle.ecigar.specs.Check.{checkOf}
-use Rattle.ecigar.specs.Table90.{Operation, matched, substituted, inserted, deleted, roundClose, squareClose, printAll, movesRead, movesReference, total, AllPositive}
-use Rattle.ecigar.specs.Ecigar.{setOutAt, setOut, joinsRun, past, matches, openRun, gap, mark, ending, operationsFrom, operationsOf, ecigarOf, clip, clipsLength, leftClip, rightClip, blockOperations, ecigarText}
-use Rattle.ecigar.proofs.PrintLaws.{length-counted, length-printed}
-use Rattle.ecigar.proofs.WalkLaws.{Open, length-mark, ending-both, text-on, text-end, past-next, past-kind, past-open, past-joined, past-apart, joins-true, matches-most, closed-most, edit-most, clip-soft, clip-hard, clip-none}
-use Rattle.ecigar.proofs.CheckLaws.{checked-fine}
-use Rattle.ecigar.proofs.TextLaws.{length-ecigarText}
+use Rattle.ecigar.specs.Table90.{Operation, matched, substituted, inserted, deleted, movesRead, movesReference, total, AllPositive}
+use Rattle.ecigar.specs.Ecigar.{setOutAt, joinsRun, past, matches, openRun, gap, mark, ending, operationsFrom, clip}
+use Rattle.ecigar.proofs.WalkLaws.{Open, past-next, past-kind, past-open, past-joined, past-apart, joins-true}
 
 -- ---- no count is 0
 
@@ -69,15 +59,6 @@ positive-clip soft hard =
     by-test (eqb soft 0)
     (λ a. by-test (eqb hard 0) (λ b. rw (a, b) tt) (λ b. let z = eqb-false hard 0 b in rw (a, b) (omega arith, tt)))
     (λ a. let z = eqb-false soft 0 a in rw a (omega arith, tt))
-
-pub counts-positive : (class alphabet : ℕ) (frame : List ℕ) (s : Block) → AllPositive (blockOperations class alphabet frame s)
-unfolding blockOperations
-counts-positive class alphabet frame s =
-    let c = s .clips in
-    let os = operationsOf alphabet (mappedLength (s .length) c) (blockEdits class alphabet frame s) in
-    positive-append (leftClip c ++ os) (rightClip c)
-    (positive-append (leftClip c) os (positive-clip (c .«left_soft») (c .«left_hard»)) (positive-from alphabet (mappedLength (s .length) c) setOut (blockEdits class alphabet frame s) (inl refl)))
-    (positive-clip (c .«right_soft») (c .«right_hard»))
 
 -- ---- how far they move a pointer
 
@@ -229,13 +210,7 @@ module _ (alphabet start mapped symbols : ℕ) (es : List Edit) (sound : Sound m
       (λ next e rest a. omega (arith, own-reference e)) (setOutAt start) es sound
       ∙ rw (total-closed-letter movesReference reference-moves (setOutAt start) refl) (omega arith)
 
-pub edits-read : (alphabet mapped symbols : ℕ) (es : List Edit) → Sound mapped symbols 0 es → total movesRead (operationsOf alphabet mapped es) ≡ mapped
-edits-read alphabet mapped symbols es sound = piece-read alphabet 0 mapped symbols es sound ∙ sub-zero mapped
-
-pub edits-reference : (alphabet mapped symbols : ℕ) (es : List Edit) → Sound mapped symbols 0 es → total movesReference (operationsOf alphabet mapped es) ≡ takenFrom mapped 0 es
-edits-reference alphabet mapped symbols es sound = piece-reference alphabet 0 mapped symbols es sound
-
--- ---- the whole segment
+-- ---- over a clip
 
 pub clip-read : (soft hard : ℕ) → total movesRead (clip soft hard) ≡ soft
 unfolding total clip
@@ -248,112 +223,3 @@ pub clip-reference : (soft hard : ℕ) → total movesReference (clip soft hard)
 unfolding total clip
 clip-reference soft hard =
     by-test (eqb soft 0) (λ a. by-test (eqb hard 0) (λ b. rw (a, b)) (λ b. rw (a, b))) (λ a. rw a)
-
-module _ (class alphabet : ℕ) (frame : List ℕ) (s : Block)
-    (sound : Sound (mappedLength (s .length) (s .clips)) (sizeOf alphabet) 0 (blockEdits class alphabet frame s)) where
-  abbrev mapped : ℕ
-  mapped = mappedLength (s .length) (s .clips)
-
-  -- the operations consume the read length exactly
-  pub operations-read : softBases (s .clips) ≤ s .length → total movesRead (blockOperations class alphabet frame s) ≡ s .length
-  unfolding blockOperations
-  operations-read h =
-      let c = s .clips in
-      let os = operationsOf alphabet mapped (blockEdits class alphabet frame s) in
-      omega (
-        arith,
-        total-append movesRead (leftClip c ++ os) (rightClip c),
-        total-append movesRead (leftClip c) os,
-        clip-read (c .«left_soft») (c .«left_hard»),
-        clip-read (c .«right_soft») (c .«right_hard»),
-        edits-read alphabet mapped (sizeOf alphabet) (blockEdits class alphabet frame s) sound,
-      )
-
-  -- and move R by the reference positions that the edits take
-  pub operations-reference : total movesReference (blockOperations class alphabet frame s) ≡ takenFrom mapped 0 (blockEdits class alphabet frame s)
-  unfolding blockOperations
-  operations-reference =
-      let c = s .clips in
-      let os = operationsOf alphabet mapped (blockEdits class alphabet frame s) in
-      omega (
-        arith,
-        total-append movesReference (leftClip c ++ os) (rightClip c),
-        total-append movesReference (leftClip c) os,
-        clip-reference (c .«left_soft») (c .«left_hard»),
-        clip-reference (c .«right_soft») (c .«right_hard»),
-        edits-reference alphabet mapped (sizeOf alphabet) (blockEdits class alphabet frame s) sound,
-      )
-
--- ---- how long the text is
-
--- two characters for each mapped base and for each edit
-from-most : (alphabet mapped symbols : ℕ) (w : Walk) (es : List Edit) → Open w → w .next ≤ mapped → Sound mapped symbols (w .next) es
-    → length (printAll (operationsFrom alphabet mapped w es)) + 2 * w .next ≤ 2 * w .run + 2 * mapped + 2 * length es
-from-most alphabet mapped symbols w [] o n s =
-    omega (arith, ap length (text-end alphabet mapped w ∙ ending-both mapped w), length-append (printAll (openRun w)) (printAll (matches (mapped - w .next))), closed-most w o, matches-most (mapped - w .next))
-from-most alphabet mapped symbols w (e ∷ es) o n s =
-    let a = sound-accepted mapped symbols (w .next) e es s in
-    let q = past-next w e refl in
-    omega (
-      arith,
-      ap length (text-on alphabet mapped w e es),
-      length-append (printAll (gap w e ++ mark alphabet e)) (printAll (operationsFrom alphabet mapped (past w e) es)),
-      length-printed (gap w e) (mark alphabet e),
-      length-mark alphabet e,
-      edit-most w e o (a .order),
-      q,
-      from-most alphabet mapped symbols (past w e) es (inr (past-open w e refl)) (rw q (a .inside)) (rw q (sound-tail mapped symbols (w .next) e es s)),
-    )
-
-pub piece-most : (alphabet start mapped symbols : ℕ) (es : List Edit) → start ≤ mapped → Sound mapped symbols start es
-    → length (printAll (operationsFrom alphabet mapped (setOutAt start) es)) + 2 * start ≤ 2 * mapped + 2 * length es
-piece-most alphabet start mapped symbols es h s = omega (arith, from-most alphabet mapped symbols (setOutAt start) es (inl refl) h s)
-
-pub edits-most : (alphabet mapped symbols : ℕ) (es : List Edit) → Sound mapped symbols 0 es → length (ecigarOf alphabet mapped es) ≤ 2 * mapped + 2 * length es
-unfolding ecigarOf
-edits-most alphabet mapped symbols es s = omega (arith, piece-most alphabet 0 mapped symbols es (omega arith) s)
-
--- a bracketed clip of at most five digits
-pub clip-most : (soft hard : ℕ) → soft < 2 ^ 16 → hard < 2 ^ 16 → length (printAll (clip soft hard)) ≤ 7
-clip-most soft hard g h =
-    by-test (eqb soft 0)
-    (λ a. by-test (eqb hard 0)
-    (λ b. rw (clip-none soft hard (eqb-true _ _ a) (eqb-true _ _ b)) (omega arith))
-    (λ b. rw (clip-hard soft hard (eqb-true _ _ a) (eqb-false _ _ b)) (omega (arith, length-counted hard squareClose, digits-short hard h))))
-    (λ a. rw (clip-soft soft hard (eqb-false _ _ a)) (omega (arith, length-counted soft roundClose, digits-short soft g)))
-
--- clips of 16 bits
-pub record ClipsFit (c : Clips) : Type 0 where
-  pub left-soft : c .«left_soft» < 2 ^ 16
-  pub left-hard : c .«left_hard» < 2 ^ 16
-  pub right-soft : c .«right_soft» < 2 ^ 16
-  pub right-hard : c .«right_hard» < 2 ^ 16
-
-pub clips-most : (c : Clips) → ClipsFit c → clipsLength c ≤ 14
-unfolding clipsLength
-clips-most c f =
-    omega (
-      arith,
-      clip-most (c .«left_soft») (c .«left_hard») (f .left-soft) (f .left-hard),
-      clip-most (c .«right_soft») (c .«right_hard») (f .right-soft) (f .right-hard),
-    )
-
--- the text of what the check accepts
-pub text-most : (class alphabet : ℕ) (frame : List ℕ) (at count mapped taken text : ℕ) → checkOf class alphabet frame at count mapped ≡ Fine taken text → text ≤ 2 * mostRead + 2 * mostEdits
-text-most class alphabet frame at count mapped taken text q =
-    let f = checked-fine class alphabet frame at count mapped taken text q in
-    omega (arith, f .text, f .few, f .short, edits-most alphabet mapped (sizeOf alphabet) (editsAt class alphabet frame count at) (f .sound), length-edits class alphabet frame count at)
-
--- no E-CIGAR without splices is longer than the limit
-pub ecigar-most : (class alphabet : ℕ) (frame : List ℕ) (s : Block) → s .edits ≤ mostEdits → s .length ≤ mostRead → ClipsFit (s .clips)
-    → Sound (mappedLength (s .length) (s .clips)) (sizeOf alphabet) 0 (blockEdits class alphabet frame s)
-    → length (ecigarText class alphabet frame s) ≤ mostEcigar
-ecigar-most class alphabet frame s few short c sound =
-    omega (
-      arith,
-      length-ecigarText class alphabet frame s,
-      edits-most alphabet (mappedLength (s .length) (s .clips)) (sizeOf alphabet) (blockEdits class alphabet frame s) sound,
-      length-edits class alphabet frame (s .edits) (s .«edits_at»),
-      clip-most (s .clips .«left_soft») (s .clips .«left_hard») (c .left-soft) (c .left-hard),
-      clip-most (s .clips .«right_soft») (s .clips .«right_hard») (c .right-soft) (c .right-hard),
-    )

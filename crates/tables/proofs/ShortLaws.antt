@@ -22,15 +22,15 @@ use Rattle.edits.proofs.EditLaws.{EditAccepted, sound-accepted, sound-tail, nex
 use Rattle.edits.proofs.FlankLaws.{each-head, each-tail}
 use Rattle.edits.proofs.FlankPieceLaws.{DeletedBelow}
 use Rattle.edits.proofs.PieceLaws.{PieceSound}
 use Rattle.ecigar.specs.declared.walk.Walk.{Walk}
 use Rattle.ecigar.specs.Table90.{plusSign, minusSign, printAll}
 use Rattle.ecigar.specs.Ecigar.{setOutAt, joinsRun, past, matches, openRun, gap, mark, operationsFrom}
 use Rattle.ecigar.specs.Spliced.{splicesFrom, readText, Apart, piecesEdits}
-use Rattle.ecigar.specs.Longest.{longestPlain, longestSpliced}
+use Rattle.tables.specs.Longest.{longestPlain, longestSpliced}
 use Rattle.ecigar.proofs.PrintLaws.{length-counted, length-printed}
 use Rattle.ecigar.proofs.WalkLaws.{Open, Joined, closed-insertion, closed-deletion, closed-none, gap-joined, gap-apart, length-mark, ending-both, text-on, text-end, past-next, past-open, past-joined, past-apart, joins-same, joins-true, matches-most}
-use Rattle.ecigar.proofs.OperationLaws.{ClipsFit, clips-most}
-use Rattle.ecigar.proofs.SplicedLaws.{splices-none, length-read, length-pieces, length-splices}
+use Rattle.ecigar.proofs.LengthLaws.{ClipsFit, clips-most}
+use Rattle.tables.proofs.SplicedLaws.{splices-none, length-read, length-pieces, length-splices}
 
 -- ---- the run that is open
 

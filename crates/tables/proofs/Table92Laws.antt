@@ -18,13 +18,13 @@ use Rattle.edits.specs.Lengths.{noClips, mappedLength}
 use Rattle.edits.specs.declared.edit.Edit.{Edit}
 use Rattle.edits.specs.declared.Block.{Block}
 use Rattle.edits.proofs.EditLaws.{length-edits, edits-none}
 use Rattle.ecigar.specs.Table90.{printAll}
 use Rattle.ecigar.specs.Ecigar.{setOut, ecigarOf, clip, leftClip, rightClip, ecigarText, OfItsClass}
-use Rattle.ecigar.specs.Table93.{item, decodeECigarMismatches}
-use Rattle.ecigar.specs.Table92.{leftClipped, rightClipped, ecigarString, offsetsOf, lettersIn, typesOf}
+use Rattle.tables.specs.Table93.{item, decodeECigarMismatches}
+use Rattle.tables.specs.Table92.{leftClipped, rightClipped, ecigarString, offsetsOf, lettersIn, typesOf}
 use Rattle.ecigar.proofs.WalkLaws.{matches-some, clip-soft, clip-hard, clip-none}
 use Rattle.ecigar.proofs.TextLaws.{text-parts}
-use Rattle.ecigar.proofs.Table93Laws.{EachEdit, none, more, item-here, end-plain, indel-text, mismatch-text}
+use Rattle.tables.proofs.Table93Laws.{EachEdit, none, more, item-here, end-plain, indel-text, mismatch-text}
 
 -- ---- the edits of a class
 
@@ -126,7 +126,7 @@ bare-text class alphabet frame s h = text-parts class alphabet frame s ∙ rw (h
 
 -- For every segment whose edits are accepted, in class P, N, M, I or HM, the text is Table 92's.
 -- leftSoftClips and rightSoftClips are the clipped bases, of which only the number counts.
--- Every aligned segment that is read is one: `text-is-table92` (segment, proofs/WriteLaws).
+-- Every aligned segment that is read in one piece is one: `text-is-table92` (segment, proofs/PiecedLaws).
 pub ecigar-is-table92 : (class alphabet : ℕ) (frame : List ℕ) (s : Block) (leftSoftClips rightSoftClips : List ℕ)
     → OfItsClass class s
     → Sound (mappedLength (s .length) (s .clips)) (sizeOf alphabet) 0 (blockEdits class alphabet frame s)

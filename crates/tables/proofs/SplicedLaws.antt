@@ -5,11 +5,9 @@ use mathlib.Core.Logic.{inl}
 use mathlib.Core.List.{List, [], _∷_, _++_, append-nil}
 use Prim.Native.Nat.{ℕ, _+_, _-_, _*_, _^_, _<_, _≤_}
 use native.Mathlib.Omega.{arith}
-use borrow.Author.Tests.{eq-eqb, ne-eqb}
-use lib.Dec.{eqb, lit<}
+use lib.Dec.{lit<}
 use lib.ListN.{length, length-append}
 use Rattle.frame.specs.Hex.{Bytes}
-use Rattle.frame.proofs.Tests.{one-of}
 use Rattle.writing.proofs.DecimalLaws.{digits-wide}
 use Rattle.edits.specs.Edits.{Sound, blockEdits}
 use Rattle.edits.specs.Lengths.{mostRead, mostEdits, mostPieces, mostEcigar, mappedLength}
@@ -18,37 +16,14 @@ use Rattle.edits.specs.declared.edit.Edit.{Edit}
 use Rattle.edits.specs.declared.Clips.{Clips}
 use Rattle.edits.specs.declared.Block.{Block}
 use Rattle.edits.proofs.PieceLaws.{PieceSound, NoneZero, before-behind, pieces-sound, pieces-span}
-use Rattle.ecigar.specs.Table90.{Operation, splicedUndirected, splicedForward, splicedReverse, counted, starSign, slashSign, percentSign, print, printAll, movesRead, movesReference, total, Positive, AllPositive}
+use Rattle.ecigar.specs.Table90.{starSign, slashSign, percentSign, print, printAll, movesRead, movesReference, total, Positive, AllPositive}
 use Rattle.ecigar.specs.Ecigar.{setOutAt, leftClip, rightClip, clipsLength, blockOperations, ecigarText}
 use Rattle.ecigar.specs.Spliced.{spliceOf, spliceLength, pieceOperations, splicesFrom, piecesOperations, readOperations, readText, ClipsLeave, Apart, lastPiece, piecesEdits}
-use Rattle.ecigar.proofs.PrintLaws.{length-counted, printed-append, printed-one}
-use Rattle.ecigar.proofs.OperationLaws.{positive-append, positive-from, positive-clip, total-append, clip-read, clip-reference, piece-read, piece-reference, piece-most, ClipsFit, clips-most}
-use Rattle.ecigar.proofs.BytesLaws.{Prints, bytes-counted, no-prints, one-prints, both-print, operations-print, clip-prints}
-
--- ---- a splice
-
--- what holds of a splice of each direction holds of every splice
-splice-by : (P : Operation → Type 0) (rcomp n : ℕ) → P (splicedForward n) → P (splicedReverse n) → P (splicedUndirected n) → P (spliceOf rcomp n)
-unfolding spliceOf
-splice-by P rcomp n f r u = one-of P (eqb rcomp 0) _ _ f (one-of P (eqb rcomp 1) _ _ r u)
-
-pub splice-forward : (rcomp n : ℕ) → rcomp ≡ 0 → printAll (spliceOf rcomp n ∷ []) ≡ counted n slashSign
-unfolding spliceOf
-splice-forward rcomp n h = rw (eq-eqb _ _ h) (printed-one (splicedForward n))
-
-pub splice-reverse : (rcomp n : ℕ) → rcomp ≡ 1 → printAll (spliceOf rcomp n ∷ []) ≡ counted n percentSign
-unfolding spliceOf
-splice-reverse rcomp n h = rw (ne-eqb rcomp 0 (λ z. omega arith), eq-eqb rcomp 1 h) (printed-one (splicedReverse n))
-
-pub splice-undirected : (rcomp n : ℕ) → (rcomp ≡ 0 → ⊥) → (rcomp ≡ 1 → ⊥) → printAll (spliceOf rcomp n ∷ []) ≡ counted n starSign
-unfolding spliceOf
-splice-undirected rcomp n g h = rw (ne-eqb _ _ g, ne-eqb _ _ h) (printed-one (splicedUndirected n))
-
--- its text is as long in each direction
-pub length-splice : (rcomp n : ℕ) → length (printAll (spliceOf rcomp n ∷ [])) ≡ spliceLength n
-length-splice rcomp n =
-    rw (printed-one (spliceOf rcomp n))
-    (splice-by (λ o. length (print o) ≡ spliceLength n) rcomp n (length-counted n slashSign) (length-counted n percentSign) (length-counted n starSign))
+use Rattle.ecigar.proofs.PrintLaws.{printed-append}
+use Rattle.ecigar.proofs.LengthLaws.{piece-most, ClipsFit, clips-most}
+use Rattle.ecigar.proofs.SpliceLaws.{splice-by, length-splice}
+use Rattle.tables.proofs.OperationLaws.{positive-append, positive-from, positive-clip, total-append, clip-read, clip-reference, piece-read, piece-reference}
+use Rattle.tables.proofs.BytesLaws.{Prints, bytes-counted, no-prints, one-prints, both-print, operations-print, clip-prints}
 
 -- ---- the text, part by part
 
