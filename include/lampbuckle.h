@@ -135,8 +135,9 @@ int64_t lampbuckle_reference_line(const uint8_t *line, size_t line_length, uint8
 
 /*
  * Lists the next record: one record line in, one 04 line out. In classes I and HM each aligned block has its pieces behind rcomp: their
- * number (a byte, 1 to 16) and their lengths (two bytes each), which add up to the read length. A deletion stands between bases of its
- * read that match or are substituted. An E-CIGAR has at most 4165 characters, of a read in one piece at most 4012.
+ * number (a byte, 1 to 16) and their lengths (two bytes each), which add up to the read length. Each piece behind the first takes a code
+ * from subsequence 0, and a value from 1 or a position from 3, behind the symbols of the pair. A deletion stands between bases of its read
+ * that match or are substituted. An E-CIGAR has at most 4165 characters, of a read in one piece at most 4012.
  * @param unit, unit_length            LAMPBUCKLE_UNIT numbers, as a unit line gave them
  * @param reference, reference_length  the reference's bases, as many as the reference lines gave: no more than LAMPBUCKLE_REFERENCE
  * @param symbols, symbols_length      LAMPBUCKLE_TABLE numbers, as the pair lines gave them

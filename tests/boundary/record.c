@@ -167,10 +167,14 @@ static void pieces(void)
     by_line("a piece of length 0", class_i, none, "03" "00000064" "0004" "00" "02" "0000" "\n", LAMPBUCKLE_LENGTH_OUT);
     by_line("cut in a length", class_i, none, "03" "00000064" "0004" "00" "02" "0004" "00" "\n", LAMPBUCKLE_MISFRAMED);
     by_line("lengths below the read length, and no symbol", class_i, none, "03" "00000064" "0004" "00" "02" "0002" "0001" "\n", LAMPBUCKLE_LENGTH_OUT);
+    by_line("lengths above the read length, and no symbol", class_i, none, "03" "00000064" "0004" "00" "02" "0002" "0003" "\n", LAMPBUCKLE_LENGTH_OUT);
     by_line("a length of 65,535", class_i, none, "03" "00000064" "0004" "00" "02" "ffff" "0005" "\n", LAMPBUCKLE_LENGTH_OUT);
     by_line("no code of a piece", class_i, none, TWO_PIECES "\n", LAMPBUCKLE_USED_UP);
-    lay_splice(1, 0, 0);
-    by_line("code 1 of a piece", class_i, by_distance, TWO_PIECES "\n", LAMPBUCKLE_CODE_OUT);
+    static const uint32_t reserved[] = {1, 3, 4, 5, 6, 7, 4294967295};
+    for (size_t k = 0; k < sizeof reserved / sizeof *reserved; k++) {
+        lay_splice(reserved[k], 0, 0);
+        by_line("a reserved code of a piece", class_i, by_distance, TWO_PIECES "\n", LAMPBUCKLE_CODE_OUT);
+    }
     lay_splice(0, 65536, 0);
     by_line("no distance of a piece", class_i, by_position, TWO_PIECES "\n", LAMPBUCKLE_USED_UP);
     by_line("a distance of a piece from 65,536", class_i, by_distance, TWO_PIECES "\n", LAMPBUCKLE_VALUE_OUT);
@@ -191,6 +195,15 @@ static void misplaced_pieces(void)
     by_line("a piece behind the unit", class_i, by_position, TWO_PIECES NO_MORE, LAMPBUCKLE_POSITION_OUT);
     lay_splice(2, 0, 109);
     by_line("a piece that ends one past AU end", class_i, by_position, TWO_PIECES NO_MORE, LAMPBUCKLE_POSITION_OUT);
+    lay_splice(2, 0, 101);
+    by_line("a splice of -1", class_i, by_position, TWO_PIECES NO_MORE, LAMPBUCKLE_POSITION_OUT);
+    lay_splice(2, 0, 99);
+    by_line("a piece before AU start, and so a splice below 0", class_i, by_position, TWO_PIECES NO_MORE, LAMPBUCKLE_POSITION_OUT);
+    /* in a unit of every position: in 32 bits the second piece would begin at position 1 */
+    static const uint32_t every[] = {4, 0, 1, 2, 100, 0, 4294967295, 1};
+    lay_splice(0, 2, 0);
+    by_line("a piece past 2^32", every, by_distance, "03" "fffffffe" "0004" "00" "02" "0002" "0002" NO_MORE, LAMPBUCKLE_POSITION_OUT);
+    lay_splice(2, 0, 109);
     /* piece by piece: what lies under the first is told before the place of the second */
     bases[1] = 5;
     by_line("a reference byte outside the alphabet under the first piece", class_i, by_position, TWO_PIECES NO_MORE, LAMPBUCKLE_SYMBOL_OUT);
@@ -200,6 +213,31 @@ static void misplaced_pieces(void)
     lay_splice(2, 0, 103);
     by_line("the same under the second", class_i, by_position, TWO_PIECES NO_MORE, LAMPBUCKLE_SYMBOL_OUT);
     bases[3] = 3;
+    lay_splice(0, 0, 0);
+}
+
+/* A read of class I of one base at 100; and a second read, of two pieces of two bases: by a pair value of 5 it lies at 102. */
+#define ONE_BASE "03" "00000064" "0001" "00" "01" "0001" "0000000000000000" "0000"
+#define SECOND_READ "0004" "00" "02" "0002" "0002"
+
+/* The symbols of a piece stand behind those of the pair: of a second read of class I, and of the first of HM, whose pair takes a value alone. */
+static void pieces_behind_a_pair(void)
+{
+    static const uint32_t two[] = {4, 0, 2, 2, 100, 100, 109, 1}, half[] = {5, 0, 2, 2, 100, 100, 109, 1}, all[LAMPBUCKLE_SUBSEQUENCES] = {2, 2};
+    lay_splice(0, 5, 0);
+    by_line("no code of a second read's piece", two, by_distance, ONE_BASE SECOND_READ "\n", LAMPBUCKLE_USED_UP);
+    by_line("lengths of a second read above its length", two, by_distance, ONE_BASE "0004" "00" "02" "0002" "0003" "\n", LAMPBUCKLE_LENGTH_OUT);
+    table[1] = 1;
+    by_line("code 1 of a second read's piece", two, all, ONE_BASE SECOND_READ "\n", LAMPBUCKLE_CODE_OUT);
+    table[1] = 0;
+    table[LAMPBUCKLE_SYMBOLS + 1] = 65536;
+    by_line("a distance of a second read's piece from 65,536", two, all, ONE_BASE SECOND_READ "\n", LAMPBUCKLE_VALUE_OUT);
+    by_line("a distance of a half-mapped read's piece from 65,536", half, all, TWO_PIECES "\n", LAMPBUCKLE_VALUE_OUT);
+    table[LAMPBUCKLE_SYMBOLS + 1] = 0;
+    by_line("a splice of 0 in a second read", two, all, ONE_BASE SECOND_READ NO_MORE, LAMPBUCKLE_POSITION_OUT);
+    by_line("a splice of 0 in a half-mapped read", half, all, TWO_PIECES NO_MORE, LAMPBUCKLE_POSITION_OUT);
+    by_line("no distance of a half-mapped read's piece", half, by_distance, TWO_PIECES "\n", LAMPBUCKLE_USED_UP);
+    by_line("rcomp 3 of a half-mapped read", half, by_distance, "03" "00000064" "0004" "03" "\n", LAMPBUCKLE_FIELD_OUT);
     lay_splice(0, 0, 0);
 }
 
@@ -324,6 +362,7 @@ void record_calls(void)
     classes();
     pieces();
     misplaced_pieces();
+    pieces_behind_a_pair();
     deletions();
     order();
 }

@@ -79,8 +79,8 @@ fn the_two_ends_of_a_piece_differ() {
     //   By its read length it ends at 200 + 8 = 208; by what it takes (6 mapped - 1 + 2 = 7) at 207.
     //   Without the soft clip it would end at 206, with all three at 209.
     // The second piece lies 10 behind the first of these ends: 218. The splice counts 218 - 207 = 11.
-    //   Counted from 207 in Table 62 it would lie at 217 and the splice count 10; counted from 208 in Table 94 the
-    //   splice would count 10 and the second piece lie at 218; and both at 208: 218 and 10.
+    //   Counted from 207 in both tables it would lie at 217 and the splice count 10; from 208 in both it would lie at
+    //   218 and the splice count 10; from 207 in Table 62 and 208 in Table 94: 217 and 9.
     // First piece, offsets 0 to 5: A at 200, G inserted, C at 201, 202 and 203 deleted, ACG at 204.
     // Second piece, offsets 6 to 11: GT at 218, T for the base at 220, CGT at 221.
     let edits = [(1, IN, 2), (3, D, 0), (3, D, 0), (8, S, 3)];

@@ -1,8 +1,9 @@
 //! What the record calls of a run have reached.
 
 use crate::call::{Call, Outcome};
+use bed::faults;
 use calls::tally::{refused, Tally};
-use oracle::{Class, Refusal};
+use oracle::Class;
 
 /// The refusals of a record call: all but those of resuming.
 const REFUSALS: [u32; 15] = [1, 2, 3, 4, 5, 6, 7, 8, 9, 10, 11, 12, 13, 14, 17];
@@ -16,9 +17,9 @@ pub fn nothing() -> Tally {
     // HM has two template segments.
     let accepted = accepted.filter(|name| *name != self::accepted(Class::HM, 1));
     let spliced = Class::ALL.into_iter().filter(|class| class.has_splices()).map(spliced);
-    let deletions = [false, true].map(deletion);
-    let others = deletions.into_iter().chain([EXACT, SHAPE].map(String::from));
-    Tally::of(REFUSALS.map(refused).into_iter().chain(accepted).chain(spliced).chain(others))
+    let faults = faults::names().into_iter().map(fault);
+    let others = [EXACT, SHAPE].map(String::from);
+    Tally::of(REFUSALS.map(refused).into_iter().chain(accepted).chain(spliced).chain(faults).chain(others))
 }
 
 pub fn add(seen: &mut Tally, call: &Call, outcome: &Outcome) {
@@ -26,13 +27,12 @@ pub fn add(seen: &mut Tally, call: &Call, outcome: &Outcome) {
     if call.unit_length != 8 || lent.counts.len() != 8 || lent.symbols.len() != 8 || lent.state.len() != 9 {
         seen.count(SHAPE);
     }
-    if outcome.answer == -i64::from(Refusal::Offset.number()) {
-        // Offsets and deletions at an end have one number; the second decoder tells them apart.
-        if let Err(Refusal::Deletion { spliced, .. }) = lent.expected() {
-            seen.count(deletion(spliced));
-        }
-    }
     if outcome.answer < 0 {
+        // Many faults of a read have one number; the second decoder tells them apart.
+        let told = lent.expected().err().filter(|refusal| -i64::from(refusal.number()) == outcome.answer);
+        if let Some(name) = told.and_then(faults::of) {
+            seen.count(fault(name));
+        }
         return seen.count(refused(outcome.answer.unsigned_abs() as u32));
     }
     if outcome.answer as usize == lent.room {
@@ -52,9 +52,8 @@ fn spliced(class: Class) -> String {
     format!("class {class:?}, several pieces accepted")
 }
 
-fn deletion(spliced: bool) -> String {
-    let read = if spliced { "several pieces" } else { "one piece" };
-    format!("refusal 12 of a deletion at an end, {read}")
+fn fault(name: String) -> String {
+    format!("refusal {name}")
 }
 
 fn accepted(class: Class, segments: u8) -> String {
