@@ -164,7 +164,7 @@ flanked-of mapped es h =
     (λ o d.
     let a = h o d .0 in
     let b = h o d .1 in
-    rw (some-of es 0 o (a .0) (omega arith) (omega (arith, a .1 .0)) (a .1 .1), some-of es o (mapped - o) (b .0) (b .1 .0) (omega (arith, b .1 .0, b .1 .1 .0)) (b .1 .1 .1)) refl)
+    simp (some-of es 0 o (a .0) (omega arith) (omega (arith, a .1 .0)) (a .1 .1), some-of es o (mapped - o) (b .0) (b .1 .0) (omega (arith, b .1 .0, b .1 .1 .0)) (b .1 .1 .1)))
 
 -- where every edit is a substitution there is none
 pub each-letters : (f : ℕ → Bool) (class alphabet : ℕ) (frame : List ℕ) (k at : ℕ) → substitutesOnly class ≡ true → eachDeletion f (editsAt class alphabet frame k at) ≡ true
