@@ -20,7 +20,7 @@ add-t10 c = search needs
 
 returns : tie.Need-returns
 unfolding byDelta
-returns c = (simp (eq-eqb _ _ (c .before .before .before .if1 .taken)), λ left n h. record { above = omega (arith, h .above); below = omega (arith, h .below); codes = omega (arith, h .codes); deltas = omega (arith, h .deltas); places = omega (arith, h .places) })
+returns c = (simp (eq-eqb _ 1 (c .before .before .before .if1 .taken)), λ left n h. record { above = omega (arith, h .above); below = omega (arith, h .below); codes = omega (arith, h .codes); deltas = omega (arith, h .deltas); places = omega (arith, h .places) })
 
 add-t11 : tie.Need-add-t11
 add-t11 c = search needs
@@ -33,7 +33,7 @@ add-t13 c = search needs
 
 returns-2 : tie.Need-returns-2
 unfolding byDelta
-returns-2 c = (simp (ne-eqb _ _ (c .before .before .if1 .left)), λ left n h. record { above = omega (arith, h .above); below = omega (arith, h .below); codes = omega (arith, h .codes); deltas = omega (arith, h .deltas); places = omega (arith, h .places) })
+returns-2 c = (simp (ne-eqb _ 1 (c .before .before .if1 .left)), λ left n h. record { above = omega (arith, h .above); below = omega (arith, h .below); codes = omega (arith, h .codes); deltas = omega (arith, h .deltas); places = omega (arith, h .places) })
 
 pub by-delta-spec : {M : Type 1} → statement M
 by-delta-spec =
