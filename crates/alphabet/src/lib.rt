@@ -1,4 +1,6 @@
 // The two alphabets of Table 35: the letter of an index, as its digits.
+#![tactic(auto)]
+
 pub mod five;
 pub mod letter;
 

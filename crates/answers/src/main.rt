@@ -1,4 +1,6 @@
 // Prints the number by which each of a few lines is answered, 0 where it is accepted: the readers of unit, pair and reference lines as they run.
+#![tactic(auto)]
+
 use front::pair_line::PairLine;
 use front::reference_line::ReferenceLine;
 use front::unit_line::UnitLine;

@@ -1,4 +1,6 @@
 // A read's bases: pointer R and pointer r of 10.6.1 over the edits of a run, the padding of 10.2.2, and the soft-clipped bases on both sides.
+#![tactic(auto)]
+
 mod lent;
 pub mod letters;
 mod places;

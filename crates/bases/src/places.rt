@@ -7,15 +7,15 @@ use crate::lent::between;
 use edits::edit::Edit;
 
 // A position of the reference. It may lie behind the last position that 32 bits hold.
-#[derive(Drop)]
+#[derive(Clone, Copy)]
 pub struct RefPlace(pub u64);
 
 // A place of the read, counted from its first mapped base.
-#[derive(Drop)]
+#[derive(Clone, Copy)]
 pub struct ReadPlace(pub u32);
 
 // Both pointers.
-#[derive(Drop)]
+#[derive(Clone, Copy)]
 pub struct Places {
     pub reference: RefPlace,
     pub read: ReadPlace,

@@ -13,7 +13,7 @@ use splices::Splices;
 use unit::Unit;
 
 // A segment that its block gives, its pieces, the reference positions that it takes, the length of its E-CIGAR without splices, and the place behind the block.
-#[derive(Drop)]
+#[derive(Clone, Copy)]
 pub struct AlignedBlock {
     pub block: Block,
     pub splices: Splices,

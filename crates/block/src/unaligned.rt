@@ -7,7 +7,7 @@ use crate::symbols::read_symbols;
 use frame::field::Cursor;
 
 // The read's length, the place of its symbols, and the place behind the block.
-#[derive(Drop)]
+#[derive(Clone, Copy)]
 pub struct UnalignedBlock {
     pub length: u32,
     pub at: usize,

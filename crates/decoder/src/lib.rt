@@ -1,4 +1,6 @@
 // The decoder as a whole: each line that is added to a listing, by one call a line of the unit file.
+#![tactic(auto)]
+
 ghost use Rattle.std.specs.Prelude.{◌≡◌, [], ◌<◌, length};
 ghost use Rattle.state.specs.Listed.{most_listed};
 ghost use Rattle.listing.specs.Listing.{line05, line06};

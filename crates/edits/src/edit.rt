@@ -7,7 +7,7 @@ use limits::Limit;
 use unit::Unit;
 
 // One edit, as Table 93 has it: mmOffsets[i], mmTypes[i], and the index of mms[i].
-#[derive(Drop)]
+#[derive(Clone, Copy)]
 pub struct Edit {
     pub offset: u16,
     pub kind: u8,

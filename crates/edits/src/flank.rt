@@ -5,7 +5,7 @@ ghost use Rattle.edits.specs.Code.Flank.{past_base, past_deleted, flank_of, flan
 use crate::edit::Edit;
 
 // How the deletions stand so far.
-#[derive(Drop)]
+#[derive(Clone, Copy)]
 pub enum Flank {
     // There is none, and no match or substitution before the place that was come to.
     Before,

@@ -1,4 +1,6 @@
 // What a block of a record holds: a segment's length, clips and edits, and where they stand in the frame; where its deletions may stand.
+#![tactic(auto)]
+
 pub mod edit;
 pub mod flank;
 pub mod piece;
@@ -10,7 +12,7 @@ ghost use Rattle.edits.specs.Code.Runs.{run_of};
 use limits::Limit;
 
 // The clipped bases on both sides of a segment.
-#[derive(Drop)]
+#[derive(Clone, Copy)]
 pub struct Clips {
     pub left_soft: u16,
     pub left_hard: u16,
@@ -40,7 +42,7 @@ impl Clips {
 }
 
 // An aligned segment as its block gives it. The soft-clipped bases and the edits stay in the frame, each at its place.
-#[derive(Drop)]
+#[derive(Clone, Copy)]
 pub struct Block {
     pub length: u32,
     pub rcomp: u32,
@@ -51,7 +53,7 @@ pub struct Block {
 }
 
 // A mapped run of a read: so many bases, and the edits of the frame that say where they differ from the reference.
-#[derive(Drop)]
+#[derive(Clone, Copy)]
 pub struct Run {
     pub mapped: u32,
     pub edits: u32,

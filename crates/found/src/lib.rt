@@ -1,4 +1,6 @@
 // The found file: what of it is kept, where the listing goes on behind it, and the kept bytes written again.
+#![tactic(auto)]
+
 ghost use Rattle.std.specs.Prelude.{◌≤◌, length};
 ghost use Rattle.found.specs.Code.Found.{EdgeWithin};
 

@@ -4,13 +4,13 @@ ghost use Rattle.frame.specs.Hex.{nib, unhex};
 ghost use Rattle.frame.specs.Field.{field_at};
 
 // A place of the frame: how many of its bytes are read.
-#[derive(Drop)]
+#[derive(Clone, Copy)]
 pub struct Cursor {
     pub at: usize,
 }
 
 // What a field is: its value and the place behind it, or a frame that ends before it is complete.
-#[derive(Drop)]
+#[derive(Clone, Copy)]
 pub enum Field {
     Value(u32, Cursor),
     Short,

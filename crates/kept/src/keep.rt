@@ -6,7 +6,7 @@ ghost use Rattle.kept.specs.Code.Run.{keep_run, RunEnd};
 use frame::line::Line;
 
 // What is known of the bytes that are read so far.
-#[derive(Drop)]
+#[derive(Clone, Copy)]
 pub struct Keep {
     // The length of the first kept line, or 0.
     pub first: usize,

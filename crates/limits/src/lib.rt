@@ -1,4 +1,6 @@
 // How much a record may have, and from it how long its frame and its 04 line may be: each sum is made of its parts, so that a new field moves one number.
+#![tactic(auto)]
+
 ghost use Rattle.std.specs.Prelude.{◌≡◌, [], ◌∷◌};
 ghost use Rattle.limits.specs.Limits.{most_segments, most_read, most_edits, most_pieces, most_splice, most_ecigar, record_fields, block_fields, edit_bytes, most_frame, segment_fields, most_segment_bytes};
 

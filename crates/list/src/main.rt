@@ -1,5 +1,7 @@
 // Lists a unit: reads the reference and the unit file, and writes the listing to standard output.
 // A listing that ends in 05 is an answer like any other. What goes wrong outside of the lines, such as a file that is not there, is said on standard error.
+#![tactic(auto)]
+
 use libc::{STDERR_FILENO, STDOUT_FILENO};
 use opening::files::{FrontRead, open};
 use opening::first::with_first;

@@ -9,7 +9,7 @@ use stream::source::{Source, take};
 use unit::{Pairs, Unit};
 
 // How far the front can be read.
-#[derive(Drop)]
+#[derive(Clone, Copy)]
 pub enum FrontRead {
     // A file cannot be opened or read, which was said on standard error.
     Unread,

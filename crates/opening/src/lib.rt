@@ -1,3 +1,5 @@
 // The front of the two files, and the listing's first line, which it decides.
+#![tactic(auto)]
+
 pub mod files;
 pub mod first;

@@ -1,4 +1,6 @@
 // The pair descriptor's symbols, and what they say of a record's mate (Table 60).
+#![tactic(auto)]
+
 ghost use Rattle.std.specs.Prelude.{◌≡◌};
 ghost use Rattle.pairing.specs.Table60.{mate_seq_id, mapping_pos};
 ghost use Rattle.pairing.specs.Pairing.{pair_of};
@@ -10,7 +12,7 @@ use unit::Unit;
 mod rows;
 
 // Where the mate lies, as far as it is known before the record's own position is read.
-#[derive(Drop)]
+#[derive(Clone, Copy)]
 pub enum Mate {
     // No aligned mate.
     Unpaired,
@@ -21,7 +23,7 @@ pub enum Mate {
 }
 
 // What a record's pair symbols say: read1First, splitMate, the record's segments, and its mate.
-#[derive(Drop)]
+#[derive(Clone, Copy)]
 pub struct Link {
     pub first: u32,
     pub split: u32,

@@ -1,3 +1,2 @@
-pub mod Lent
 pub mod HeadLaws
 pub mod Unique

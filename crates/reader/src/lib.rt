@@ -1,5 +1,7 @@
 // A reading place that remembers the frame it reads and how far it has come: a struct that holds the frame's slice.
 // Each function over it takes it apart and calls one on the slice and the number.
+#![tactic(auto)]
+
 pub mod head;
 
 ghost use Rattle.std.specs.Prelude.{◌≡◌};

@@ -1,4 +1,6 @@
 // The record call: from a lent record line to a lent 04 line. Nothing is written before all is known.
+#![tactic(auto)]
+
 ghost use Rattle.std.specs.Prelude.{◌≡◌, List, ℕ, ◌<◌, length};
 ghost use Rattle.refusal.specs.Numbers.{fine};
 ghost use Rattle.unit.specs.Unit.{most_records};

@@ -29,10 +29,13 @@ pub fine_or_early : {n : ℕ} → T (may_be_early n) → FineOrEarly n
 fine_or_early {n} h = by (eqb n no_room) refl (leb n last_refusal) refl h
   where
     by : (t : Bool) → eqb n no_room ≡ t → (u : Bool) → leb n last_refusal ≡ u → T (cond t false u) → FineOrEarly n
+    by false e false f h = elim h [ ]
+    by true e u f h = elim h [ ]
     by false e true f h = (leb-true n last_refusal f, eqb-false n no_room e)
 
 pub early : {n : ℕ} → T (is_early n) → Early n
 early {n} h = by (ltb fine n) refl h
   where
     by : (t : Bool) → ltb fine n ≡ t → T (cond t (may_be_early n) false) → Early n
+    by false e h = elim h [ ]
     by true e h = let m : FineOrEarly n = fine_or_early h in ((ltb-true fine n e, m.0), m.1)

@@ -1,4 +1,6 @@
 // Document 01's refusal numbers, in the order of its table.
+#![tactic(auto)]
+
 ghost use Rattle.std.specs.Prelude.{◌≡◌, [], ◌∷◌};
 ghost use Rattle.refusal.specs.Numbers.{fine, malformed, misframed, unit_out, count_out, used_up, code_out, value_out, length_out, clips_out, symbol_out, field_out, offset_out, position_out, missing, other_first, other_last, no_room};
 

@@ -1,4 +1,6 @@
 // The lines of a listing behind its first, gathered as they are made: one call a line of the unit file.
+#![tactic(auto)]
+
 use decoder::{Added, turn};
 use opening::files::{FrontRead, OpenFiles};
 use program::sink::{Sink, with_refused};

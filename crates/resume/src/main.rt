@@ -1,5 +1,7 @@
 // Goes on with a listing that was stopped: writes the kept lines of the found file to standard output, then the missing ones.
 // A refused resume is an answer like any other. What goes wrong outside of the lines, such as a file that is not there, is said on standard error.
+#![tactic(auto)]
+
 use found::{Found, copy, find};
 use libc::{STDERR_FILENO, STDOUT_FILENO};
 use listing::close::NO_RECORD;

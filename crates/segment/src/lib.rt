@@ -1,4 +1,6 @@
 // A segment of a record: read and checked whole, then written.
+#![tactic(auto)]
+
 mod spliced;
 pub mod write;
 
@@ -23,7 +25,7 @@ use splices::Splices;
 use unit::Unit;
 
 // An aligned segment at its position, with its pieces and the length of its E-CIGAR.
-#[derive(Drop)]
+#[derive(Clone, Copy)]
 pub struct Placed {
     pub block: Block,
     pub splices: Splices,
@@ -32,7 +34,7 @@ pub struct Placed {
 }
 
 // What a record has of a segment.
-#[derive(Drop)]
+#[derive(Clone, Copy)]
 pub enum Segment {
     Aligned(Placed),
     Unaligned(UnalignedBlock),

@@ -1,4 +1,6 @@
 // Reads over introns: the symbols that a read's pieces take (Table 62), where each piece maps, and the pieces one by one.
+#![tactic(auto)]
+
 pub mod mapping;
 pub mod take;
 pub mod walk;
@@ -8,7 +10,7 @@ ghost use Rattle.splices.specs.Located.{unspliced};
 ghost use Rattle.splices.specs.Code.Walk.{NarrowSplices};
 
 // How many pieces a read has, where their lengths stand in the frame, and where their symbols stand: how many of subsequences 0, 1 and 3 are taken before them.
-#[derive(Drop)]
+#[derive(Clone, Copy)]
 pub struct Splices {
     pub lengths_at: usize,
     pub count: u32,

@@ -8,7 +8,7 @@ ghost use Rattle.splices.specs.Code.Mapping.{RoomFor};
 use unit::Pairs;
 
 // A piece's position, `above` less `below` since a distance may lead below 0; and how many symbols of subsequences 0, 1 and 3 are behind it.
-#[derive(Drop)]
+#[derive(Clone, Copy)]
 pub struct Mapping {
     pub above: u64,
     pub below: u64,

@@ -13,7 +13,7 @@ use edits::piece::count_before;
 use edits::{Block, Run, run_of};
 
 // A piece: how many pieces are left from it on, where it begins and ends among the mapped bases, its edits and how many are behind them, where its length stands, and where it maps.
-#[derive(Drop)]
+#[derive(Clone, Copy)]
 pub struct PieceWalk {
     pub left: u32,
     pub start: u32,

@@ -1,4 +1,6 @@
 // What is carried from record to record, and every form that it has: beside the symbol counts, in the head of an 04 line, and as numbers for C.
+#![tactic(auto)]
+
 pub mod head;
 pub mod listed;
 pub mod numbers;
@@ -9,7 +11,7 @@ ghost use Rattle.state.specs.State.{index_count, fresh_state, all_taken, within 
 use unit::Pairs;
 
 // The next record's number, and how many symbols of each subsequence are taken.
-#[derive(Drop)]
+#[derive(Clone, Copy)]
 pub struct State {
     pub number: u32,
     pub index: [u32; State::INDEXES],

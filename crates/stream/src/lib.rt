@@ -1,2 +1,4 @@
 // Files read through lent buffers, in pieces.
+#![tactic(auto)]
+
 pub mod source;

@@ -1,4 +1,6 @@
 // Taking symbols: the next one of a subsequence, and the state with its index one higher.
+#![tactic(auto)]
+
 ghost use Rattle.std.specs.Prelude.{◌≡◌};
 ghost use Rattle.taking.specs.Take.{none_left, take_of};
 

@@ -1,4 +1,6 @@
 // The unit, its pair symbols, and their limits.
+#![tactic(auto)]
+
 pub mod kind;
 
 ghost use Rattle.std.specs.Prelude.{◌≡◌, [], ◌∷◌};
@@ -8,7 +10,7 @@ ghost use Rattle.unit.specs.Pairs.{subsequences, most_symbols, table_length};
 use limits::Limit;
 
 // The unit line's eight values.
-#[derive(Drop)]
+#[derive(Clone, Copy)]
 pub struct Unit {
     pub class: u32,
     pub alphabet: u32,

@@ -19,17 +19,17 @@ use Rattle.frame.proofs.HexLaws.{length_hex_of}
 pub lay_lay : (s : List ℕ) (a : ℕ) (xs : List ℕ) (b : ℕ) (ys : List ℕ) → b ≡ a + 2 * length xs → lay (lay s a xs) b ys ≡ lay s a (xs ++ ys)
 unfolding lay
 lay_lay s a [] b ys e = let f : b ≡ a = omega arith in rw f
-lay_lay s a (x ∷ xs) b ys e = lay_lay _ (a + 2) xs b ys (omega arith)
+lay_lay s a (x ∷ xs) b ys e = lay_lay (set (set s a (glyph (x / 16))) (a + 1) (glyph (x % 16))) (a + 2) xs b ys (omega arith)
 
 pub length_lay : (s : List ℕ) (a : ℕ) (xs : List ℕ) → length (lay s a xs) ≡ length s
 unfolding lay
 length_lay s a [] = refl
-length_lay s a (x ∷ xs) = length_lay _ (a + 2) xs ∙ simp length-set
+length_lay s a (x ∷ xs) = length_lay (set (set s a (glyph (x / 16))) (a + 1) (glyph (x % 16))) (a + 2) xs ∙ simp length-set
 
 lay_sets : (s : List ℕ) (a : ℕ) (bs : List ℕ) → lay s a bs ≡ sets s a (hex_of bs)
 unfolding lay hex_of
 lay_sets s a [] = refl
-lay_sets s a (b ∷ bs) = let e : a + 2 ≡ suc (suc a) = omega arith in rw (e, add-one) (lay_sets _ (suc (suc a)) bs)
+lay_sets s a (b ∷ bs) = let e : a + 2 ≡ suc (suc a) = omega arith in rw (e, add-one) (lay_sets (set (set s a (glyph (b / 16))) (suc a) (glyph (b % 16))) (suc (suc a)) bs)
 
 -- what is laid, as a reader sees it: the digits stand there, and nothing before or behind them differs
 pub lay_eq : (s : List ℕ) (a : ℕ) (bs : List ℕ) → a + 2 * length bs ≤ length s → lay s a bs ≡ take a s ++ hex_of bs ++ drop (a + 2 * length bs) s

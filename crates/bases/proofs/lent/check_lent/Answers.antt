@@ -1,0 +1,10 @@
+-- `bases::lent::check_lent` meets its contract: one is outside the alphabet where the highest is, `symbols_highest`. Assumes nothing.
+use borrow.Author.Tests.{le-leb, lt-leb}
+use Rattle.bases.proofs.ReferenceLaws.{symbols_highest}
+use Rattle.bases.proofs.lent.check_lent.Goals as goal
+
+pub returns-then-size-wide : goal.returns-then-size-wide
+returns-then-size-wide c = rw (symbols_highest, ← c.highest.ensures, ← c.size.ensures, ← c.wide.ensures, le-leb _ _ c.if-size-wide.true)
+
+pub returns : goal.returns
+returns c = rw (symbols_highest, ← c.highest.ensures, ← c.size.ensures, ← c.wide.ensures, lt-leb _ _ c.if-size-wide.false)

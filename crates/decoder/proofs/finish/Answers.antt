@@ -1,0 +1,6 @@
+-- `decoder::finish` meets its contract: there is room for an 06 line, `finish_told`. Assumes nothing.
+use Rattle.decoder.proofs.TurnLaws.{finish_told}
+use Rattle.decoder.proofs.finish.Goals as goal
+
+pub returns : goal.returns
+returns c = record { value = (finish_told _ _ _ c.requires c.write_done-wrote.ensures c.stopped.ensures).0; out_after = (finish_told _ _ _ c.requires c.write_done-wrote.ensures c.stopped.ensures).1 }

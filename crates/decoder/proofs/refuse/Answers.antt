@@ -1,0 +1,6 @@
+-- `decoder::refuse` meets its contract: there is room for an 05 line, `refuse_told`. Assumes nothing.
+use Rattle.decoder.proofs.TurnLaws.{refuse_told}
+use Rattle.decoder.proofs.refuse.Goals as goal
+
+pub returns : goal.returns
+returns c = record { value = (refuse_told _ _ _ _ c.requires c.write_refused-wrote.ensures c.stopped.ensures).0; out_after = (refuse_told _ _ _ _ c.requires c.write_refused-wrote.ensures c.stopped.ensures).1 }

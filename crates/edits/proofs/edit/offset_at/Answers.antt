@@ -1,0 +1,7 @@
+-- `edits::edit::offset_at` meets its contract: two bytes, `offset_bytes`. Assumes nothing.
+use Rattle.edits.proofs.EditLaws.{offset_bytes}
+use mathlib.Core.Path.{sym}
+use Rattle.edits.proofs.edit.offset_at.Goals as goal
+
+pub returns : goal.returns
+returns c = rw (c.wide.ensures.0, c.wide-2.ensures.0) (sym (offset_bytes _ _))

@@ -1,0 +1,17 @@
+-- `lampbuckle::lines::lampbuckle_unit_line` meets its contract, by the test of the shape and by what the reader answered. Assumes nothing.
+use Rattle.lampbuckle.proofs.LineLaws.{unit_call_refused, unit_call_read}
+use Rattle.lampbuckle.specs.Lines.{unit_call}
+use Rattle.lampbuckle.proofs.AnswerLaws.{told}
+use borrow.Author.Tests.{ne_eqb}
+use Rattle.lampbuckle.proofs.lines.lampbuckle_unit_line.Goals as goal
+
+pub returns-then-unit-ne-UNIT : goal.returns-then-unit-ne-UNIT
+unfolding unit_call
+returns-then-unit-ne-UNIT c = rw (ne_eqb _ _ c.if-unit-ne-UNIT.true, told c.refused.type-inv c.refused.ensures)
+
+pub returns-in-Refused : goal.returns-in-Refused
+returns-in-Refused c = unit_call_refused _ _ c.if-unit-ne-UNIT.false c.read.ensures c.in-Refused.is (told c.refused-in-Refused.type-inv c.refused-in-Refused.ensures)
+
+pub returns-in-Read : goal.returns-in-Read
+returns-in-Read c =
+    unit_call_read _ _ c.if-unit-ne-UNIT.false c.read.ensures c.in-Read.is c.lay_unit.ensures (told c.counted.type-inv c.counted.ensures)

@@ -1,0 +1,11 @@
+-- `lampbuckle::write::lampbuckle_write_refused` meets its contract. Assumes nothing.
+use native.Mathlib.Omega.{arith}
+use Rattle.lampbuckle.proofs.AnswerLaws.{told}
+use Rattle.lampbuckle.proofs.WriteLaws.{line_counted, line_written}
+use Rattle.lampbuckle.proofs.write.lampbuckle_write_refused.Goals as goal
+
+pub answered-requires : goal.answered-requires
+answered-requires c = line_counted _ _ c.write_refused-w.ensures (omega arith)
+
+pub returns : goal.returns
+returns c = line_written _ _ c.write_refused-w.ensures (told c.answered.type-inv c.answered.ensures)

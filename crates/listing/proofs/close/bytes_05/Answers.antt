@@ -1,0 +1,8 @@
+-- `listing::close::bytes_05` meets its contract: byte by byte, where a number divided by 1 is itself. Assumes nothing.
+use native.Mathlib.Nat.{div-one}
+use Rattle.frame.specs.Hex.{be}
+use Rattle.listing.proofs.close.bytes_05.Goals as goal
+
+pub returns : goal.returns
+unfolding be
+returns c = simp div-one

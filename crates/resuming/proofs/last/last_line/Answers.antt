@@ -1,0 +1,20 @@
+-- `resuming::last::last_line` meets its contract: a malformed line says nothing, and any other what its frame says. Assumes nothing.
+use mathlib.Core.Path.{sym, ap, ◌∙◌}
+use Rattle.frame.proofs.LineLaws.{frame_is_line}
+use Rattle.state.specs.Listed.{most_listed}
+use Rattle.resuming.specs.Last.{said_of}
+use Rattle.listing.proofs.LastLaws.{last_malformed, last_frame}
+use Rattle.resuming.proofs.last.last_line.Goals as goal
+
+pub returns-in_default : goal.returns-in_default
+unfolding said_of
+returns-in_default c = let a = c.args in
+    c.bare.ensures ∙ ap said_of (last_malformed a.count a.counts.now a.line.now (sym c.line_within.ensures ∙ c.in_default.is))
+
+pub frame_last-requires : goal.frame_last-requires
+frame_last-requires c = (frame_is_line most_listed _ _ (sym c.line_within.ensures ∙ c.in-Frame.is)).count
+
+pub returns : goal.returns
+returns c =
+    let a = c.args in
+    c.frame_last.ensures ∙ ap said_of (last_frame a.count a.counts.now a.line.now _ (sym c.line_within.ensures ∙ c.in-Frame.is))
