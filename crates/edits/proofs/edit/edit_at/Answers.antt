@@ -7,23 +7,17 @@ use Rattle.edits.specs.Edits.{width_of}
 use Rattle.edits.specs.Code.Runs.{substitutes_only}
 use Rattle.edits.proofs.edit.edit_at.Goals as goal
 
-other : (c : tie.Else1) → substitutes_only c.before.before.before.args.class ≡ false
-other c = sym c.before.substitutes.ensures ∙ c.if1.false
-
-four : (c : tie.Else1) → width_of c.before.before.before.args.class ≡ 4
-four c = width_full _ (other c)
-
 pub substitution_at-requires : goal.substitution_at-requires
 substitution_at-requires c = (sym c.substitutes.ensures ∙ c.if-substitutes.true, c.requires)
 
 pub offset_at-requires : goal.offset_at-requires
-offset_at-requires c = omega (arith, four c)
+offset_at-requires c = omega (arith, width_full _ (sym c.substitutes.ensures ∙ c.if-substitutes.false))
 
 pub bounds-frame-at : goal.bounds-frame-at
-bounds-frame-at c = omega (arith, four c)
+bounds-frame-at c = omega (arith, width_full _ (sym c.substitutes.ensures ∙ c.if-substitutes.false))
 
 pub bounds-frame-at-2 : goal.bounds-frame-at-2
-bounds-frame-at-2 c = omega (arith, four c)
+bounds-frame-at-2 c = omega (arith, width_full _ (sym c.substitutes.ensures ∙ c.if-substitutes.false))
 
 pub returns : goal.returns
-returns c = simp (edit_full _ (other c), c.offset_at.ensures)
+returns c = simp (edit_full _ (sym c.substitutes.ensures ∙ c.if-substitutes.false), c.offset_at.ensures)
