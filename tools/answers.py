@@ -38,6 +38,13 @@ def clauses(root):
                     if m:
                         fn = module + "::" + owner + m.group(1)
                         found[fn] = ([], [])
+                        found[fn + "!"] = []
+                        signature = True
+                    if fn and re.match(r"^\s*\{|.*\{$", line) and "fn " not in line:
+                        signature = False
+                    if fn:
+                        for m in re.finditer(r"(\w+): &mut \[", line):
+                            found[fn + "!"].append(m.group(1))
                     m = re.match(r"^\s+(requires|ensures)\*?(?: ([a-z0-9_]+))? \{", line)
                     if m and fn:
                         found[fn][m.group(1) == "ensures"].append(m.group(2))
@@ -106,18 +113,28 @@ class Turn:
             # a step may have its port's name already
             self.say("no step %s" % rest[0])
         new = [step or rest[0]] + rest[1:]
-        if step and len(new) > 2 and new[1] == "ensures" and step in self.callee:
-            names = self.clause.get(self.callee[step], ([], []))[1]
-            if len(names) > 1 and re.fullmatch(r"\d", new[2]):
-                k = int(new[2])
-                if k < len(names) - 1 or len(names) == 2:
-                    new[2] = names[k]
-                elif len(new) > 3 and re.fullmatch(r"\d", new[3]):
-                    new[2:4] = [names[k + int(new[3])]]
-        if new[0] == "requires" and len(new) > 1 and re.fullmatch(r"\d", new[1]):
-            names = self.clause.get(self.fn, ([], []))[0]
-            if len(names) > 1 and int(new[1]) < len(names):
-                new[1] = names[int(new[1])]
+        def named(names, segs):
+            """a clause's name for its place: the older kit had three clauses as a pair and a pair behind it"""
+            if len(names) < 2 or not names[0]:
+                return segs
+            k = 0
+            while segs and segs[0] in ("0", "1"):
+                if segs[0] == "0":
+                    return [names[k]] + segs[1:]
+                segs = segs[1:]
+                k += 1
+                if k == len(names) - 1:
+                    return [names[k]] + segs
+            return ["?"] + segs
+
+        if step and step in self.callee and len(new) > 2 and new[1] == "ensures":
+            new[2:] = named(self.clause.get(self.callee[step], ([], []))[1], new[2:])
+        if step and step in self.callee and len(new) > 2 and new[1] == "auto" and new[2] == "0":
+            out = self.clause.get(self.callee[step] + "!", [])
+            if out:
+                new[2] = out[0]
+        if new[0] == "requires" and len(new) > 1:
+            new[1:] = named(self.clause.get(self.fn, ([], []))[0], new[1:])
         return ".".join(["c"] + new)
 
     def expression(self, text):
@@ -294,7 +311,7 @@ class Turn:
         unfolding = [l for l in lines if l.startswith("unfolding ")]
         rest = "\n".join(l for l in lines if not l.startswith("unfolding "))
         m = re.match(r"^%s((?: (?!= )%s)*) =(?=\s)(.*)$" % (re.escape(name), W), rest, re.S)
-        if m and m.group(2).strip() == "search rules":
+        if m and (m.group(2).strip() == "search rules" or m.group(2).strip() == "tt" and old.endswith("-requires")):
             return
         if new is None:
             self.say("no goal %s: %s" % (old, " ".join(body.split())[:100]))

@@ -141,7 +141,13 @@ module _ (class alphabet : ℕ) (frame symbols : List ℕ) (mapped : ℕ) where
       → pieces_from mapped start es ((until - start) ∷ k ∷ ns) (positions_from symbols m (n ∷ k ∷ ns))
       ≡ record { at = position_in m; start = start; until = until; edits = edits_before until es } ∷ pieces_from mapped until (edits_behind until es) (k ∷ ns) (positions_from symbols (following symbols m n) (k ∷ ns))
   unfolding pieces_from positions_from
-  parted start until es m n k ns h = let s : start + (until - start) ≡ until = omega arith in rw s refl
+  parted start until es m n k ns h =
+      let s : start + (until - start) ≡ until = omega arith in
+      ap
+      (λ (u : ℕ).
+        let p : Piece = record { at = position_in m; start = start; until = u; edits = edits_before u es } in
+        p ∷ pieces_from mapped u (edits_behind u es) (k ∷ ns) (positions_from symbols (following symbols m n) (k ∷ ns)))
+      s
 
   module _ (w : PieceWalk) (c : CutPiece class frame mapped w) (h : 2 ≤ w.left) where
     abbrev next : PieceWalk

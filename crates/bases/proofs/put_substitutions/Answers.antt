@@ -33,7 +33,7 @@ put_matched-requires c =
     record { p_bound = walk_near c.loop-left.invariant.0; p_in_bounds = rw length_matched at (rest_room_end c.loop-left.invariant.1 (bases_end _ _ _ _ _ _ _ _ _ c.loop-left-test.false) c.requires.edits_at_in_bounds) }
 
 pub shape_of-out : goal.shape_of-out
-shape_of-out c = c.put_matched.auto.0 ∙ c.loop-left.invariant.1.long
+shape_of-out c = c.put_matched.auto.out ∙ c.loop-left.invariant.1.long
 
 pub returns : goal.returns
 returns c = rest_end c.loop-left.invariant.1 (rw (bases_end _ _ _ _ _ _ _ _ _ c.loop-left-test.false) c.put_matched.ensures)

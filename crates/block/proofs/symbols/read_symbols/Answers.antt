@@ -4,9 +4,6 @@ use native.Mathlib.Omega.{arith}
 use Rattle.block.proofs.SymbolLaws.{symbols_short, symbols_out, symbols_on, symbols_end}
 use Rattle.block.proofs.symbols.read_symbols.Goals as goal
 
-pub size-size-requires : goal.size-size-requires
-size-size-requires c = tt
-
 pub loop-left-init : goal.loop-left-init
 loop-left-init c = (omega arith, refl)
 
@@ -15,9 +12,6 @@ returns-then-bytes-at c = sym (symbols_short _ _ _ _ _ c.loop-left-test.true c.i
 
 pub bounds-frame-at : goal.bounds-frame-at
 bounds-frame-at c = omega arith
-
-pub wide-requires : goal.wide-requires
-wide-requires c = tt
 
 pub returns-then-size-wide : goal.returns-then-size-wide
 returns-then-size-wide c =

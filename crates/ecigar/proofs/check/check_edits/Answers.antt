@@ -7,22 +7,10 @@ use mathlib.Core.Logic.{inl}
 use borrow.Author.Tests.{ltb-false}
 use Rattle.ecigar.proofs.check.check_edits.Goals as goal
 
-pub width-step-requires : goal.width-step-requires
-width-step-requires c = tt
-
-pub size-symbols-requires : goal.size-symbols-requires
-size-symbols-requires c = tt
-
-pub start_at-t-requires : goal.start_at-t-requires
-start_at-t-requires c = tt
-
 pub loop-left-init : goal.loop-left-init
 loop-left-init c =
     let t = c.start_at-t.ensures in
     (rw t record { next = omega arith; run = omega arith; begun = inl refl; taken = omega arith; text = omega arith }, (check_start _ _ _ _ _ _ _ _ t, flanking_start _ _ _ _ _ _ _ t))
-
-pub ends_within-requires : goal.ends_within-requires
-ends_within-requires c = tt
 
 pub returns-then-ends_within : goal.returns-then-ends_within
 returns-then-ends_within c =
@@ -33,9 +21,6 @@ pub edit_at-e-requires : goal.edit_at-e-requires
 edit_at-e-requires c =
     rw (← c.width-step.ensures) (ltb-false _ _ (sym c.ends_within.ensures ∙ c.if-ends_within.false))
 
-pub refusal_of-no-requires : goal.refusal_of-no-requires
-refusal_of-no-requires c = tt
-
 pub returns-then-no-ne-FINE : goal.returns-then-no-ne-FINE
 returns-then-no-ne-FINE c =
     let wide = c.width-step.ensures in
@@ -43,9 +28,6 @@ returns-then-no-ne-FINE c =
     let whole = sym c.if-ends_within.false ∙ c.ends_within.ensures in
     let told = check_out _ _ _ _ _ _ _ _ _ wide size c.loop-left-test.true _ c.edit_at-e.ensures whole _ c.refusal_of-no.ensures c.if-no-ne-FINE.true in
     sym (read_refused _ _ _ _ _ _ _ (sym c.loop-left.invariant.1.0 ∙ told))
-
-pub past-flank-requires : goal.past-flank-requires
-past-flank-requires c = tt
 
 pub take_edit-t-requires : goal.take_edit-t-requires
 take_edit-t-requires c =

@@ -7,20 +7,8 @@ use mathlib.Core.Logic.{inl}
 use borrow.Author.Tests.{ltb-false}
 use Rattle.ecigar.proofs.check.check_piece_edits.Goals as goal
 
-pub width-step-requires : goal.width-step-requires
-width-step-requires c = tt
-
-pub size-symbols-requires : goal.size-symbols-requires
-size-symbols-requires c = tt
-
-pub start_at-t-requires : goal.start_at-t-requires
-start_at-t-requires c = tt
-
 pub loop-left-init : goal.loop-left-init
 loop-left-init c = (rw c.start_at-t.ensures record { next = omega arith; run = omega arith; begun = inl refl; taken = omega arith; text = omega arith }, check_start _ _ _ _ _ _ _ _ c.start_at-t.ensures)
-
-pub ends_within-requires : goal.ends_within-requires
-ends_within-requires c = tt
 
 pub returns-then-ends_within : goal.returns-then-ends_within
 returns-then-ends_within c =
@@ -29,9 +17,6 @@ returns-then-ends_within c =
 pub edit_at-e-requires : goal.edit_at-e-requires
 edit_at-e-requires c =
     rw (← c.width-step.ensures) (ltb-false _ _ (sym c.ends_within.ensures ∙ c.if-ends_within.false))
-
-pub refusal_of-no-requires : goal.refusal_of-no-requires
-refusal_of-no-requires c = tt
 
 pub returns-then-no-ne-FINE : goal.returns-then-no-ne-FINE
 returns-then-no-ne-FINE c =

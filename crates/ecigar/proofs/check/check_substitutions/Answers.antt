@@ -9,21 +9,8 @@ use Rattle.ecigar.proofs.CheckLaws.{check_start, check_short, check_out}
 use Rattle.ecigar.proofs.SubstitutionLaws.{substitutions_start, substitutions_on, substitutions_end}
 use Rattle.ecigar.proofs.check.check_substitutions.Goals as goal
 
--- the text is short: two characters a base at most
-few : (c : tie.At-loop invariant-loop decreases-loop) → c.loop.text ≤ 2 * most_read
-few c = let g = c.loop.invariant in omega (arith, g.short, g.inside, c.before.before.before.before.requires)
-
-pub width-step-requires : goal.width-step-requires
-width-step-requires c = tt
-
-pub size-symbols-requires : goal.size-symbols-requires
-size-symbols-requires c = tt
-
 pub loop-left-init : goal.loop-left-init
 loop-left-init c = substitutions_start _ _ _ _ _ _ (check_start _ _ _ _ 0 _ _ _ refl)
-
-pub ends_within-requires : goal.ends_within-requires
-ends_within-requires c = tt
 
 pub returns-then-ends_within : goal.returns-then-ends_within
 returns-then-ends_within c =
@@ -33,9 +20,6 @@ returns-then-ends_within c =
 pub substitution_at-e-requires : goal.substitution_at-e-requires
 substitution_at-e-requires c =
     (c.requires.0, rw (← c.width-step.ensures) (ltb-false _ _ (sym c.ends_within.ensures ∙ c.if-ends_within.false)))
-
-pub refusal_of-no-requires : goal.refusal_of-no-requires
-refusal_of-no-requires c = tt
 
 pub returns-then-no-ne-FINE : goal.returns-then-no-ne-FINE
 returns-then-no-ne-FINE c =
@@ -47,14 +31,11 @@ pub overflow_sub-offset : goal.overflow_sub-offset
 overflow_sub-offset c =
     let a = edit_accepted _ _ _ _ (sym c.refusal_of-no.ensures ∙ c.if-no-ne-FINE.false) in omega (arith, a.order)
 
-pub matches_len-requires : goal.matches_len-requires
-matches_len-requires c = tt
-
 pub overflow_add-text : goal.overflow_add-text
-overflow_add-text c = omega (arith, few c)
+overflow_add-text c = omega (arith, c.loop-left.invariant.short, c.loop-left.invariant.inside, c.requires)
 
 pub overflow_add-text-in-loop-left : goal.overflow_add-text-in-loop-left
-overflow_add-text-in-loop-left c = omega (arith, few c)
+overflow_add-text-in-loop-left c = omega (arith, c.loop-left.invariant.short, c.loop-left.invariant.inside, c.requires)
 
 pub overflow_add-at : goal.overflow_add-at
 overflow_add-at c =
@@ -75,11 +56,8 @@ loop-left-preserved c =
 pub overflow_sub-run : goal.overflow_sub-run
 overflow_sub-run c = omega (arith, c.loop-left.invariant.inside)
 
-pub matches_len-requires-2 : goal.matches_len-requires-2
-matches_len-requires-2 c = tt
-
 pub overflow_add-result : goal.overflow_add-result
-overflow_add-result c = omega (arith, few c)
+overflow_add-result c = omega (arith, c.loop-left.invariant.short, c.loop-left.invariant.inside, c.requires)
 
 pub returns : goal.returns
 returns c = substitutions_end _ _ _ _ _ _ _ c.loop-left.invariant c.loop-left-test.false c.matches_len-2.ensures.0

@@ -7,17 +7,8 @@ use Rattle.ecigar.proofs.WalkLaws.{past_run}
 use Rattle.ecigar.proofs.TextLaws.{writing_start, writing_order, writing_room, writing_on, ecigar_end}
 use Rattle.ecigar.proofs.text.put_edits.Goals as goal
 
-pub digits-table-requires : goal.digits-table-requires
-digits-table-requires c = tt
-
-pub width-step-requires : goal.width-step-requires
-width-step-requires c = tt
-
-pub start_at-w-requires : goal.start_at-w-requires
-start_at-w-requires c = tt
-
 pub loop-left-init : goal.loop-left-init
-loop-left-init c = rw c.start_at-w.ensures (omega arith, writing_start _ _ _ _ _ _ _ _ _ c.requires.start_le_mapped.0 c.requires.start_le_mapped.1.1 c.requires.sound.0)
+loop-left-init c = rw c.start_at-w.ensures (omega arith, writing_start _ _ _ _ _ _ _ _ _ c.requires.start_le_mapped.0 c.requires.start_le_mapped.1.1 c.requires.sound)
 
 pub edit_at-e-requires : goal.edit_at-e-requires
 edit_at-e-requires c =
@@ -31,7 +22,7 @@ put_edit-next-requires c =
     let wide = c.width-step.ensures in
     let it = c.edit_at-e.ensures in
     let more = c.loop-left-test.true in
-    (c.digits-table.ensures, (writing_order _ _ _ _ _ _ _ _ wide it more g, writing_room _ _ _ _ _ _ _ _ wide it more g c.requires.sound.1))
+    (c.digits-table.ensures, (writing_order _ _ _ _ _ _ _ _ wide it more g, writing_room _ _ _ _ _ _ _ _ wide it more g c.requires.edits_at_in_bounds))
 
 pub advance-w-requires : goal.advance-w-requires
 advance-w-requires c =
@@ -57,10 +48,10 @@ loop-left-preserved c =
 pub put_ending-requires : goal.put_ending-requires
 put_ending-requires c =
     let g = c.loop-left.invariant.1 in
-    (g.next, rest_room_end g.rest (ecigar_end _ _ _ _ _ _ _ c.loop-left-test.false) c.requires.sound.1)
+    (g.next, rest_room_end g.rest (ecigar_end _ _ _ _ _ _ _ c.loop-left-test.false) c.requires.edits_at_in_bounds)
 
 pub shape_of-out : goal.shape_of-out
-shape_of-out c = c.put_ending.auto.0 ∙ c.loop-left.invariant.1.rest.long
+shape_of-out c = c.put_ending.auto.out ∙ c.loop-left.invariant.1.rest.long
 
 pub returns : goal.returns
 returns c = rest_end c.loop-left.invariant.1.rest (rw (ecigar_end _ _ _ _ _ _ _ c.loop-left-test.false) c.put_ending.ensures)

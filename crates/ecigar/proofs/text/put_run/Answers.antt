@@ -7,23 +7,20 @@ use Rattle.ecigar.proofs.SubstitutionLaws.{run_matched}
 use Rattle.ecigar.proofs.text.put_run.Goals as goal
 
 pub put_matches-requires : goal.put_matches-requires
-put_matches-requires c = rw (run_matched _ _ _ _ _ _ c.if-run-eq0.true) at c.requires.sound.1
+put_matches-requires c = rw (run_matched _ _ _ _ _ _ c.if-run-eq0.true) at c.requires.edits_at_in_bounds
 
 pub returns-then-run-eq0 : goal.returns-then-run-eq0
 returns-then-run-eq0 c = laid_as (sym (run_matched _ _ _ _ _ _ c.if-run-eq0.true)) c.put_matches.ensures
 
-pub substitutes-requires : goal.substitutes-requires
-substitutes-requires c = tt
-
 pub put_substitutions-requires : goal.put_substitutions-requires
-put_substitutions-requires c = ((sym c.substitutes.ensures ∙ c.if-substitutes.true, c.requires.edits_le_most_edits.1), c.requires.sound)
+put_substitutions-requires c = record { class_value = (sym c.substitutes.ensures ∙ c.if-substitutes.true, c.requires.edits_le_most_edits.1); sound = c.requires.sound; edits_at_in_bounds = c.requires.edits_at_in_bounds }
 
 pub returns-then-substitutes : goal.returns-then-substitutes
 returns-then-substitutes c = c.put_substitutions.ensures
 
 pub write_piece-requires : goal.write_piece-requires
 unfolding ecigar_of
-write_piece-requires c = (sym c.substitutes.ensures ∙ c.if-substitutes.false, ((omega arith, c.requires.edits_le_most_edits), c.requires.sound))
+write_piece-requires c = record { class_value = sym c.substitutes.ensures ∙ c.if-substitutes.false; start_le_mapped = (omega arith, c.requires.edits_le_most_edits); sound = c.requires.sound; edits_at_in_bounds = c.requires.edits_at_in_bounds }
 
 pub returns : goal.returns
 unfolding ecigar_of

@@ -11,15 +11,9 @@ use Rattle.ecigar.proofs.TextLaws.{writing_start}
 use Rattle.ecigar.proofs.SubstitutionLaws.{substitution_order, substitution_room, substitution_laid, substitutions_last}
 use Rattle.ecigar.proofs.text.put_substitutions.Goals as goal
 
-pub digits-table-requires : goal.digits-table-requires
-digits-table-requires c = tt
-
-pub width-step-requires : goal.width-step-requires
-width-step-requires c = tt
-
 pub loop-left-init : goal.loop-left-init
 unfolding ecigar_of
-loop-left-init c = record { walk = set_out; plain = refl; there = refl; writing = writing_start _ _ _ _ _ _ _ _ _ (omega arith) c.requires.class_value.1 c.requires.sound.0 }
+loop-left-init c = record { walk = set_out; plain = refl; there = refl; writing = writing_start _ _ _ _ _ _ _ _ _ (omega arith) c.requires.class_value.1 c.requires.sound }
 
 pub substitution_at-e-requires : goal.substitution_at-e-requires
 substitution_at-e-requires c =
@@ -33,11 +27,11 @@ overflow_sub-offset c =
 
 pub put_matches-behind-requires : goal.put_matches-behind-requires
 put_matches-behind-requires c =
-    let r = rw length-append at (substitution_room _ _ _ _ _ _ _ _ c.width-step.ensures c.substitution_at-e.ensures c.loop-left-test.true c.requires.class_value.0 c.loop-left.invariant c.requires.sound.1) in omega (arith, r)
+    let r = rw length-append at (substitution_room _ _ _ _ _ _ _ _ c.width-step.ensures c.substitution_at-e.ensures c.loop-left-test.true c.requires.class_value.0 c.loop-left.invariant c.requires.edits_at_in_bounds) in omega (arith, r)
 
 pub put_letter-next-requires : goal.put_letter-next-requires
 put_letter-next-requires c =
-    room_next (_ ∷ []) c.put_matches-behind.ensures (substitution_room _ _ _ _ _ _ _ _ c.width-step.ensures c.substitution_at-e.ensures c.loop-left-test.true c.requires.class_value.0 c.loop-left.invariant c.requires.sound.1)
+    room_next (_ ∷ []) c.put_matches-behind.ensures (substitution_room _ _ _ _ _ _ _ _ c.width-step.ensures c.substitution_at-e.ensures c.loop-left-test.true c.requires.class_value.0 c.loop-left.invariant c.requires.edits_at_in_bounds)
 
 pub overflow_add-at : goal.overflow_add-at
 overflow_add-at c =
@@ -60,10 +54,10 @@ overflow_sub-run c = let g = c.loop-left.invariant in omega (arith, g.there, g.w
 pub put_matches-requires : goal.put_matches-requires
 put_matches-requires c =
     let g = c.loop-left.invariant in
-    rest_room_end g.writing.rest (substitutions_last _ _ _ _ _ _ g c.loop-left-test.false) c.requires.sound.1
+    rest_room_end g.writing.rest (substitutions_last _ _ _ _ _ _ g c.loop-left-test.false) c.requires.edits_at_in_bounds
 
 pub shape_of-out : goal.shape_of-out
-shape_of-out c = c.put_matches.auto.0 ∙ c.loop-left.invariant.writing.rest.long
+shape_of-out c = c.put_matches.auto.out ∙ c.loop-left.invariant.writing.rest.long
 
 pub returns : goal.returns
 returns c =

@@ -8,8 +8,8 @@ pub put_edits-requires : goal.put_edits-requires
 put_edits-requires c =
     let a = c.args in
     let p = c.requires in
-    let t = edits_typed a.class p.0 a.alphabet a.frame.now a.run.edits a.run.edits_at in
-    record { start_le_mapped = (p.1.0.0, (p.1.0.1.0, rw (width_full class_i typed_i) (rw (width_full a.class p.0) at p.1.0.1.1))); sound = rw t p.1.1.0; edits_at_in_bounds = rw t p.1.1.1 }
+    let t = edits_typed a.class p.class_value a.alphabet a.frame.now a.run.edits a.run.edits_at in
+    record { start_le_mapped = (p.start_le_mapped.0, (p.start_le_mapped.1.0, rw (width_full class_i typed_i) (rw (width_full a.class p.class_value) at p.start_le_mapped.1.1))); sound = rw t p.sound; edits_at_in_bounds = rw t p.edits_at_in_bounds }
 
 pub returns : goal.returns
 returns c =

@@ -9,9 +9,6 @@ use Rattle.edits.proofs.EditLaws.{framed_on, width_least}
 use Rattle.edits.proofs.PieceLaws.{before_none, before_end, before_step}
 use Rattle.edits.proofs.piece.count_before.Goals as goal
 
-pub width-step-requires : goal.width-step-requires
-width-step-requires c = tt
-
 pub loop-left-init : goal.loop-left-init
 loop-left-init c = (omega arith, (c.requires, λ alphabet. let z : c.args.count - c.args.count ≡ 0 = omega arith in rw (z, zero-add) refl))
 

@@ -8,9 +8,6 @@ use Rattle.pieces.proofs.WalkingLaws.{walking_ready, walking_able, walking_on, n
 use Rattle.pieces.proofs.CheckLaws.{turn_out, turn_on, last_out, last_fine, begun_whole}
 use Rattle.pieces.proofs.check.check_pieces.Goals as goal
 
-pub run_of-run-requires : goal.run_of-run-requires
-run_of-run-requires c = tt
-
 pub first_piece-w-requires : goal.first_piece-w-requires
 first_piece-w-requires c = c.requires.begun
 

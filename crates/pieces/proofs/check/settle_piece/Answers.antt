@@ -5,9 +5,6 @@ use Rattle.pieces.proofs.CheckLaws.{found_outside, found_unknown, found_fine}
 use Rattle.pieces.proofs.PlaceLaws.{place_inside}
 use Rattle.pieces.proofs.check.settle_piece.Goals as goal
 
-pub refusal_of-outside-requires : goal.refusal_of-outside-requires
-refusal_of-outside-requires c = tt
-
 pub returns-then-outside-ne-FINE : goal.returns-then-outside-ne-FINE
 returns-then-outside-ne-FINE c = (c.out_of_place.ensures ∙ found_outside _ _ _ _ _ _ _ c.requires.looked _ c.refusal_of-outside.ensures c.if-outside-ne-FINE.true, rw c.out_of_place.ensures (omega arith, omega arith))
 

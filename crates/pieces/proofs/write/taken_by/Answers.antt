@@ -5,9 +5,6 @@ use Rattle.edits.proofs.EditLaws.{framed_on}
 use Rattle.pieces.proofs.WriteLaws.{reach_is, reach_most, gains_on, gains_end}
 use Rattle.pieces.proofs.write.taken_by.Goals as goal
 
-pub width-step-requires : goal.width-step-requires
-width-step-requires c = tt
-
 pub overflow_sub-taken : goal.overflow_sub-taken
 overflow_sub-taken c = omega (arith, c.requires.sound.base)
 
@@ -16,9 +13,6 @@ loop-left-init c = (c.requires.framed, refl)
 
 pub edit_at-e-requires : goal.edit_at-e-requires
 edit_at-e-requires c = (framed_on c.args.frame.now c.args.unit.class _ _ _ c.loop-left.invariant.0 refl c.loop-left-test.true).0
-
-pub gain-taken-requires : goal.gain-taken-requires
-gain-taken-requires c = tt
 
 pub overflow_add-taken : goal.overflow_add-taken
 overflow_add-taken c = omega (arith, c.loop-left.invariant.1, c.gain-taken.ensures.1, reach_most _ _ _ _ c.requires, c.requires.few, c.requires.short)

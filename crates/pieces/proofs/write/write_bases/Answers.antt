@@ -5,14 +5,11 @@ use Rattle.writing.proofs.LayLaws.{rest_start, rest_put, rest_end}
 use Rattle.pieces.proofs.WriteLaws.{on_start, all_left, on_ready, on_stands, on_able, on_next, bases_more, bases_last, pieces_room}
 use Rattle.pieces.proofs.write.write_bases.Goals as goal
 
-pub run_of-run-requires : goal.run_of-run-requires
-run_of-run-requires c = tt
-
 pub first_piece-w-requires : goal.first_piece-w-requires
 first_piece-w-requires c = c.requires.walk_begun.begun
 
 pub loop-left-init : goal.loop-left-init
-loop-left-init c = (on_start _ _ _ _ _ _ _ _ _ c.requires.walk_begun c.requires.each_piece.0 c.run_of-run.ensures c.first_piece-w.ensures, (rest_start _ _ _, rw (all_left _ _ _ _ _ _ _ _ _ c.requires.walk_begun c.run_of-run.ensures c.first_piece-w.ensures) c.requires.each_piece.1))
+loop-left-init c = (on_start _ _ _ _ _ _ _ _ _ c.requires.walk_begun c.requires.each_piece c.run_of-run.ensures c.first_piece-w.ensures, (rest_start _ _ _, rw (all_left _ _ _ _ _ _ _ _ _ c.requires.walk_begun c.run_of-run.ensures c.first_piece-w.ensures) c.requires.position_in_bounds))
 
 pub put_bases-next-requires : goal.put_bases-next-requires
 put_bases-next-requires c = record { ready_piece = on_ready _ _ _ _ _ _ _ c.loop-left.invariant.0; standing = on_stands _ _ _ _ _ _ _ c.loop-left.invariant.0; w_in_bounds = pieces_room _ _ _ _ _ _ _ c.loop-left.invariant.0 _ _ c.loop-left.invariant.1.0 c.loop-left.invariant.1.1 }
@@ -33,7 +30,7 @@ pub put_bases-requires : goal.put_bases-requires
 put_bases-requires c = record { ready_piece = on_ready _ _ _ _ _ _ _ c.loop-left.invariant.0; standing = on_stands _ _ _ _ _ _ _ c.loop-left.invariant.0; w_in_bounds = pieces_room _ _ _ _ _ _ _ c.loop-left.invariant.0 _ _ c.loop-left.invariant.1.0 c.loop-left.invariant.1.1 }
 
 pub shape_of-out : goal.shape_of-out
-shape_of-out c = c.put_bases.auto.0 ∙ c.loop-left.invariant.1.0.long
+shape_of-out c = c.put_bases.auto.out ∙ c.loop-left.invariant.1.0.long
 
 pub returns : goal.returns
 returns c = rw (← (all_left _ _ _ _ _ _ _ _ _ c.requires.walk_begun c.run_of-run.ensures c.first_piece-w.ensures)) (rest_end c.loop-left.invariant.1.0 (rw (bases_last _ _ _ _ _ _ _ c.loop-left.invariant.0 _ _ c.loop-left-test.false) c.put_bases.ensures))

@@ -5,14 +5,11 @@ use Rattle.writing.proofs.LayLaws.{rest_start, rest_put, rest_end}
 use Rattle.pieces.proofs.WriteLaws.{on_start, all_left, on_ready, on_stands, on_able, on_next, text_more, text_last, text_room, ordered_here, ordered_more}
 use Rattle.pieces.proofs.write.write_text.Goals as goal
 
-pub run_of-run-requires : goal.run_of-run-requires
-run_of-run-requires c = tt
-
 pub first_piece-w-requires : goal.first_piece-w-requires
 first_piece-w-requires c = c.requires.walk_begun.begun
 
 pub loop-left-init : goal.loop-left-init
-loop-left-init c = let all = all_left _ _ _ _ _ _ _ _ _ c.requires.walk_begun c.run_of-run.ensures c.first_piece-w.ensures in (on_start _ _ _ _ _ _ _ _ _ c.requires.walk_begun c.requires.each_piece.0.0 c.run_of-run.ensures c.first_piece-w.ensures, (rw all c.requires.each_piece.0.1, (rest_start _ _ _, rw all c.requires.each_piece.1)))
+loop-left-init c = let all = all_left _ _ _ _ _ _ _ _ _ c.requires.walk_begun c.run_of-run.ensures c.first_piece-w.ensures in (on_start _ _ _ _ _ _ _ _ _ c.requires.walk_begun c.requires.each_piece.0 c.run_of-run.ensures c.first_piece-w.ensures, (rw all c.requires.each_piece.1, (rest_start _ _ _, rw all c.requires.position_in_bounds)))
 
 pub put_text-next-requires : goal.put_text-next-requires
 put_text-next-requires c = let g = c.loop-left.invariant in record { ready_piece = on_ready _ _ _ _ _ _ _ g.0; standing = (on_stands _ _ _ _ _ _ _ g.0, ordered_here _ _ _ _ _ _ _ g.0 c.args.block.rcomp _ g.1.0); w_in_bounds = text_room _ _ _ _ _ _ _ g.0 _ _ g.1.1.0 g.1.1.1 }
@@ -36,7 +33,7 @@ pub put_text-requires : goal.put_text-requires
 put_text-requires c = let g = c.loop-left.invariant in record { ready_piece = on_ready _ _ _ _ _ _ _ g.0; standing = (on_stands _ _ _ _ _ _ _ g.0, ordered_here _ _ _ _ _ _ _ g.0 c.args.block.rcomp _ g.1.0); w_in_bounds = text_room _ _ _ _ _ _ _ g.0 _ _ g.1.1.0 g.1.1.1 }
 
 pub shape_of-out : goal.shape_of-out
-shape_of-out c = c.put_text.auto.0 ∙ c.loop-left.invariant.1.1.0.long
+shape_of-out c = c.put_text.auto.out ∙ c.loop-left.invariant.1.1.0.long
 
 pub returns : goal.returns
 returns c = rw (← (all_left _ _ _ _ _ _ _ _ _ c.requires.walk_begun c.run_of-run.ensures c.first_piece-w.ensures)) (rest_end c.loop-left.invariant.1.1.0 (rw (text_last _ _ _ _ _ _ _ c.loop-left.invariant.0 _ _ c.loop-left-test.false) c.put_text.ensures))

@@ -14,15 +14,6 @@ overflow_cast-at c = omega arith
 pub overflow_mul-at : goal.overflow_mul-at
 overflow_mul-at c = omega arith
 
-pub read_u16-requires : goal.read_u16-requires
-read_u16-requires c = tt
-
-pub value-v-requires : goal.value-v-requires
-value-v-requires c = tt
-
-pub wrapping_add_u32-sum-requires : goal.wrapping_add_u32-sum-requires
-wrapping_add_u32-sum-requires c = tt
-
 pub overflow_add-i : goal.overflow_add-i
 overflow_add-i c = omega arith
 

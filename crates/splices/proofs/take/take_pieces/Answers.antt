@@ -7,9 +7,6 @@ use Rattle.splices.proofs.take.take_pieces.Goals as goal
 pub loop-left-init : goal.loop-left-init
 loop-left-init c = refl
 
-pub take_piece-moved-requires : goal.take_piece-moved-requires
-take_piece-moved-requires c = tt
-
 pub returns-then-moved-ne-FINE : goal.returns-then-moved-ne-FINE
 returns-then-moved-ne-FINE c = splice_refused _ _ _ c.loop-left.here c.loop-left.left _ c.take_piece-moved.ensures c.loop-left-test.true c.if-moved-ne-FINE.true ∙ c.loop-left.invariant
 
@@ -21,9 +18,6 @@ loop-left-smaller c = omega arith
 
 pub loop-left-preserved : goal.loop-left-preserved
 loop-left-preserved c = splice_gone _ _ _ c.loop-left.here c.loop-left.left _ c.take_piece-moved.ensures c.loop-left-test.true c.if-moved-ne-FINE.false (splice_told _ _ c.args.state c.loop-left.here) ∙ c.loop-left.invariant
-
-pub went-requires : goal.went-requires
-went-requires c = tt
 
 pub returns : goal.returns
 returns c = c.went.ensures ∙ sym (turns_done _ _ _ c.loop-left.here c.loop-left.left c.loop-left-test.false) ∙ c.loop-left.invariant
