@@ -321,6 +321,7 @@ class Turn:
             out.append("\n".join(comments + ["pub %s : goal.%s" % (new, new), body]))
             return
         text = re.sub(r", %s\.well[-_]formed(\.\d)+" % W, "", self.expression(m.group(2)))
+        text = text.replace(".type-inv", ".type_inv")
         text = re.sub(r"not-(?:true|false) (?:_|\([^()]*\)) (c\.if-not[^\s().]*\.(?:true|false))", r"\1", text)
         text = re.sub(r"\((c\.if-not[^\s().]*\.(?:true|false))\)", r"\1", text)
         names = self.it["asked"].get(key) or self.it["asked"].get(key.replace("-", "_"))
@@ -338,6 +339,16 @@ class Turn:
                         last = j + 3
                 both = " ".join(text[last:].split())
                 passed = re.fullmatch(r"(?:rw (\((?:[^()]|\([^()]*\))*\)|\S+) )?c\.([^\s.]+)\.ensures", both)
+                if not passed:
+                    tactic = re.match(r"rw (\((?:[^()]|\([^()]*\))*\)|\S+) (?=\()", both)
+                    pair = self.tuple_to_record("= " + both[tactic.end():], names) if tactic else None
+                    if pair:
+                        inside = re.fullmatch(r"= record \{ %s = (.*); %s = (.*); \}" % tuple(names), pair)
+                        if inside:
+                            parts = [tactic.group(0) + "(" + x + ")" for x in inside.groups()]
+                            text = text[:last] + " record { " + " ".join("%s = %s;" % (n, x) for n, x in zip(names, parts)) + " }"
+                            out.append("\n".join(comments + ["pub %s : goal.%s" % (new, new)] + unfolding + ["%s c =%s" % (new, text)]))
+                            return
                 inner = self.clause.get(self.callee.get(passed.group(2)), ([], []))[1] if passed else []
                 if len(inner) == 2:
                     parts = [both + "." + n for n in inner]

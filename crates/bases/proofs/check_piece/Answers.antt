@@ -26,7 +26,7 @@ overflow_add-at c =
 
 pub loop-left-preserved : goal.loop-left-preserved
 loop-left-preserved c =
-    (walk_on c.loop-left.invariant.0 _ c.edit_at-e.result c.loop-left-test.true (omega (arith, c.edit_at-e.type-inv)) c.past_edit-p.ensures c.width-step.ensures, rw (c.width-step.ensures, c.past_edit-p.ensures) (sym (refusal_on _ _ _ _ _ _ _ _ _ _ c.edit_at-e.ensures c.loop-left-test.true c.check_match-no.ensures c.if-no-ne-FINE.false) ∙ c.loop-left.invariant.1))
+    (walk_on c.loop-left.invariant.0 _ c.edit_at-e.result c.loop-left-test.true (omega (arith, c.edit_at-e.type_inv)) c.past_edit-p.ensures c.width-step.ensures, rw (c.width-step.ensures, c.past_edit-p.ensures) (sym (refusal_on _ _ _ _ _ _ _ _ _ _ c.edit_at-e.ensures c.loop-left-test.true c.check_match-no.ensures c.if-no-ne-FINE.false) ∙ c.loop-left.invariant.1))
 
 pub check_match-requires : goal.check_match-requires
 check_match-requires c = walk_near c.loop-left.invariant.0

@@ -9,7 +9,7 @@ use Rattle.bases.proofs.put_run.Goals as goal
 pub put_matched-requires : goal.put_matched-requires
 put_matched-requires c =
     let none : c.args.run.edits ≤ 0 = omega arith in
-    let room = rw (bases_end _ _ _ _ _ _ _ _ _ none, length_matched) at c.requires.edits_at_in_bounds in record { p_bound = (rw c.beginning-p.ensures (omega arith, room)).0; p_in_bounds = (rw c.beginning-p.ensures (omega arith, room)).1 }
+    let room = rw (bases_end _ _ _ _ _ _ _ _ _ none, length_matched) at c.requires.edits_at_in_bounds in record { p_bound = rw c.beginning-p.ensures (omega arith); p_in_bounds = rw c.beginning-p.ensures room }
 
 pub returns-then-run-eq0 : goal.returns-then-run-eq0
 returns-then-run-eq0 c =

@@ -26,7 +26,7 @@ overflow_add-here c =
 
 pub loop-left-preserved : goal.loop-left-preserved
 loop-left-preserved c =
-    (walk_on c.loop-left.invariant.0 _ c.substitution_at-e.result c.loop-left-test.true (omega (arith, c.substitution_at-e.type-inv)) c.past_edit-p.ensures c.width-step.ensures, rw (c.width-step.ensures, c.past_edit-p.ensures) (rest_put c.loop-left.invariant.1 (bases_on _ _ _ _ _ _ _ _ _ _ c.substitution_at-e.ensures c.loop-left-test.true) c.put_edit-next.ensures))
+    (walk_on c.loop-left.invariant.0 _ c.substitution_at-e.result c.loop-left-test.true (omega (arith, c.substitution_at-e.type_inv)) c.past_edit-p.ensures c.width-step.ensures, rw (c.width-step.ensures, c.past_edit-p.ensures) (rest_put c.loop-left.invariant.1 (bases_on _ _ _ _ _ _ _ _ _ _ c.substitution_at-e.ensures c.loop-left-test.true) c.put_edit-next.ensures))
 
 pub put_matched-requires : goal.put_matched-requires
 put_matched-requires c =

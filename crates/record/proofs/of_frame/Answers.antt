@@ -16,7 +16,7 @@ settle-requires c =
     let framed = c.requires.by_index in record { ready_plan = ((frame_ready a.unit a.reference.now a.symbols.now a.counts.now a.state refl framed.0 a.frame.now lent (fits c) framed.1 c.read-reading.ensures c.in-Whole.is, number_fits a.unit a.reference.now a.symbols.now a.counts.now a.state refl lent)).0; number_lt_most_records = ((frame_ready a.unit a.reference.now a.symbols.now a.counts.now a.state refl framed.0 a.frame.now lent (fits c) framed.1 c.read-reading.ensures c.in-Whole.is, number_fits a.unit a.reference.now a.symbols.now a.counts.now a.state refl lent)).1 }
 
 pub returns-in-Refused : goal.returns-in-Refused
-returns-in-Refused c = record { value = (rw (read_step_lem _ _ _ _ _ _ c.read-reading.ensures, c.in-Refused.is) (c.refused.ensures, refl)).0; out_after = (rw (read_step_lem _ _ _ _ _ _ c.read-reading.ensures, c.in-Refused.is) (c.refused.ensures, refl)).1 }
+returns-in-Refused c = record { value = rw (read_step_lem _ _ _ _ _ _ c.read-reading.ensures, c.in-Refused.is) (c.refused.ensures); out_after = rw (read_step_lem _ _ _ _ _ _ c.read-reading.ensures, c.in-Refused.is) (refl) }
 
 pub returns-in-Whole : goal.returns-in-Whole
 returns-in-Whole c = record { value = rw (read_step_lem _ _ _ _ _ _ c.read-reading.ensures, c.in-Whole.is) c.settle.ensures.value; out_after = rw (read_step_lem _ _ _ _ _ _ c.read-reading.ensures, c.in-Whole.is) c.settle.ensures.out_after }

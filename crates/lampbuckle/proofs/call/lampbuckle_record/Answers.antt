@@ -10,7 +10,7 @@ use Rattle.lampbuckle.proofs.call.lampbuckle_record.Goals as goal
 
 pub returns-then-unit-ne-UNIT : goal.returns-then-unit-ne-UNIT
 unfolding record_call
-returns-then-unit-ne-UNIT c = rw (ne_eqb _ _ c.if-unit-ne-UNIT.true, told c.refused.type-inv c.refused.ensures)
+returns-then-unit-ne-UNIT c = rw (ne_eqb _ _ c.if-unit-ne-UNIT.true, told c.refused.type_inv c.refused.ensures)
 
 pub counted-requires : goal.counted-requires
 counted-requires c =
@@ -18,10 +18,10 @@ counted-requires c =
 
 pub returns-in-Refused : goal.returns-in-Refused
 returns-in-Refused c =
-    record_refused _ _ _ _ _ _ _ c.read_unit-u.ensures c.read-before.ensures at-record.«record».ensures c.if-unit-ne-UNIT.false c.in-Refused.is (told c.refused-in-Refused.type-inv c.refused-in-Refused.ensures)
+    record_refused _ _ _ _ _ _ _ c.read_unit-u.ensures c.read-before.ensures at-record.«record».ensures c.if-unit-ne-UNIT.false c.in-Refused.is (told c.refused-in-Refused.type_inv c.refused-in-Refused.ensures)
 
 pub returns-in-Listed : goal.returns-in-Listed
 returns-in-Listed c =
     let a = c.args in
     let nine = record_nine a.unit.now _ _ _ a.state.now _ a.out.now c.read_unit-u.ensures c.read-before.ensures at-record.«record».ensures c.in-Listed.is in
-    record_listed _ _ _ _ _ _ _ c.read_unit-u.ensures c.read-before.ensures at-record.«record».ensures c.if-unit-ne-UNIT.false c.in-Listed.is (c.lay.ensures ∙ state_into_lem _ _ nine) (told c.counted.type-inv c.counted.ensures)
+    record_listed _ _ _ _ _ _ _ c.read_unit-u.ensures c.read-before.ensures at-record.«record».ensures c.if-unit-ne-UNIT.false c.in-Listed.is (c.lay.ensures ∙ state_into_lem _ _ nine) (told c.counted.type_inv c.counted.ensures)

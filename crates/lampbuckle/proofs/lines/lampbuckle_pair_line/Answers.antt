@@ -7,7 +7,7 @@ use Rattle.lampbuckle.proofs.lines.lampbuckle_pair_line.Goals as goal
 
 pub returns-then-counts-ne-SUBSEQUENCES : goal.returns-then-counts-ne-SUBSEQUENCES
 unfolding pair_call
-returns-then-counts-ne-SUBSEQUENCES c = rw (ne_eqb _ _ c.if-counts-ne-SUBSEQUENCES.true, told c.refused.type-inv c.refused.ensures)
+returns-then-counts-ne-SUBSEQUENCES c = rw (ne_eqb _ _ c.if-counts-ne-SUBSEQUENCES.true, told c.refused.type_inv c.refused.ensures)
 
 pub bounds-counts-subsequence : goal.bounds-counts-subsequence
 bounds-counts-subsequence c =
@@ -15,8 +15,8 @@ bounds-counts-subsequence c =
 
 pub returns-in-Refused : goal.returns-in-Refused
 returns-in-Refused c =
-    pair_call_refused _ _ _ _ c.if-counts-ne-SUBSEQUENCES.false c.read.ensures c.in-Refused.is (told c.refused-in-Refused.type-inv c.refused-in-Refused.ensures)
+    pair_call_refused _ _ _ _ c.if-counts-ne-SUBSEQUENCES.false c.read.ensures c.in-Refused.is (told c.refused-in-Refused.type_inv c.refused-in-Refused.ensures)
 
 pub returns-in-Count : goal.returns-in-Count
 returns-in-Count c =
-    pair_read _ _ _ _ c.if-counts-ne-SUBSEQUENCES.false c.read.ensures c.in-Count.is (told c.counted.type-inv c.counted.ensures)
+    pair_read _ _ _ _ c.if-counts-ne-SUBSEQUENCES.false c.read.ensures c.in-Count.is (told c.counted.type_inv c.counted.ensures)

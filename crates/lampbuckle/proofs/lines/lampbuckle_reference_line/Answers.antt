@@ -7,7 +7,7 @@ pub counted-requires : goal.counted-requires
 counted-requires c = reference_counted _ _ _ c.read.ensures c.in-Bases.is
 
 pub returns-in-Refused : goal.returns-in-Refused
-returns-in-Refused c = reference_call_refused _ _ _ c.read.ensures c.in-Refused.is (told c.refused.type-inv c.refused.ensures)
+returns-in-Refused c = reference_call_refused _ _ _ c.read.ensures c.in-Refused.is (told c.refused.type_inv c.refused.ensures)
 
 pub returns-in-Bases : goal.returns-in-Bases
-returns-in-Bases c = reference_read _ _ _ c.read.ensures c.in-Bases.is (told c.counted.type-inv c.counted.ensures)
+returns-in-Bases c = reference_read _ _ _ c.read.ensures c.in-Bases.is (told c.counted.type_inv c.counted.ensures)

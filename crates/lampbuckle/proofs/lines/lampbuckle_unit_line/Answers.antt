@@ -7,11 +7,11 @@ use Rattle.lampbuckle.proofs.lines.lampbuckle_unit_line.Goals as goal
 
 pub returns-then-unit-ne-UNIT : goal.returns-then-unit-ne-UNIT
 unfolding unit_call
-returns-then-unit-ne-UNIT c = rw (ne_eqb _ _ c.if-unit-ne-UNIT.true, told c.refused.type-inv c.refused.ensures)
+returns-then-unit-ne-UNIT c = rw (ne_eqb _ _ c.if-unit-ne-UNIT.true, told c.refused.type_inv c.refused.ensures)
 
 pub returns-in-Refused : goal.returns-in-Refused
-returns-in-Refused c = unit_call_refused _ _ c.if-unit-ne-UNIT.false c.read.ensures c.in-Refused.is (told c.refused-in-Refused.type-inv c.refused-in-Refused.ensures)
+returns-in-Refused c = unit_call_refused _ _ c.if-unit-ne-UNIT.false c.read.ensures c.in-Refused.is (told c.refused-in-Refused.type_inv c.refused-in-Refused.ensures)
 
 pub returns-in-Read : goal.returns-in-Read
 returns-in-Read c =
-    unit_call_read _ _ c.if-unit-ne-UNIT.false c.read.ensures c.in-Read.is c.lay_unit.ensures (told c.counted.type-inv c.counted.ensures)
+    unit_call_read _ _ c.if-unit-ne-UNIT.false c.read.ensures c.in-Read.is c.lay_unit.ensures (told c.counted.type_inv c.counted.ensures)

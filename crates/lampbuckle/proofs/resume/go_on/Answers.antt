@@ -5,4 +5,4 @@ use Rattle.lampbuckle.proofs.AnswerLaws.{told}
 use Rattle.lampbuckle.proofs.resume.go_on.Goals as goal
 
 pub returns : goal.returns
-returns c = rw (c.lay.ensures ∙ state_into_lem _ _ c.requires.state_len, told c.counted.type-inv c.counted.ensures)
+returns c = rw (c.lay.ensures ∙ state_into_lem _ _ c.requires.state_len, told c.counted.type_inv c.counted.ensures)

@@ -7,11 +7,11 @@ use Rattle.lampbuckle.proofs.resume.lampbuckle_keep.Goals as goal
 
 pub returns-then-keep-ne-KEEP : goal.returns-then-keep-ne-KEEP
 unfolding keep_call
-returns-then-keep-ne-KEEP c = rw (ne_eqb _ _ c.if-keep-ne-KEEP.true, told c.refused.type-inv c.refused.ensures)
+returns-then-keep-ne-KEEP c = rw (ne_eqb _ _ c.if-keep-ne-KEEP.true, told c.refused.type_inv c.refused.ensures)
 
 pub counted-requires : goal.counted-requires
 counted-requires c = flag_counted c.over-after.result.done c.flag.ensures
 
 pub returns : goal.returns
 returns c =
-    keep_gone _ _ c.if-keep-ne-KEEP.false c.read_keep-before.ensures c.over-after.ensures c.lay_keep.ensures c.flag.ensures (told c.counted.type-inv c.counted.ensures)
+    keep_gone _ _ c.if-keep-ne-KEEP.false c.read_keep-before.ensures c.over-after.ensures c.lay_keep.ensures c.flag.ensures (told c.counted.type_inv c.counted.ensures)

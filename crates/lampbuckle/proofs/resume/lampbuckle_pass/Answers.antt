@@ -10,11 +10,11 @@ use Rattle.lampbuckle.proofs.resume.lampbuckle_pass.Goals as goal
 
 pub returns-then-wanted-ne-WANTED : goal.returns-then-wanted-ne-WANTED
 unfolding pass_call
-returns-then-wanted-ne-WANTED c = rw (ne_eqb _ _ c.if-wanted-ne-WANTED.true, told c.refused.type-inv c.refused.ensures)
+returns-then-wanted-ne-WANTED c = rw (ne_eqb _ _ c.if-wanted-ne-WANTED.true, told c.refused.type_inv c.refused.ensures)
 
 pub counted-requires : goal.counted-requires
 counted-requires c = pass_counted _ c.args.wanted.now c.pass-p.ensures (omega arith)
 
 pub returns : goal.returns
 returns c =
-    pass_gone _ _ c.pass-p.ensures c.if-wanted-ne-WANTED.false (sets_whole (c.pass-p.result.left ∷ []) c.args.wanted.now c.if-wanted-ne-WANTED.false) (told c.counted.type-inv c.counted.ensures)
+    pass_gone _ _ c.pass-p.ensures c.if-wanted-ne-WANTED.false (sets_whole (c.pass-p.result.left ∷ []) c.args.wanted.now c.if-wanted-ne-WANTED.false) (told c.counted.type_inv c.counted.ensures)

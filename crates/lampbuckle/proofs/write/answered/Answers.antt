@@ -9,7 +9,7 @@ pub counted-requires : goal.counted-requires
 counted-requires c = subst Countable c.in-Line.is c.requires
 
 pub returns-in-Line : goal.returns-in-Line
-returns-in-Line c = told c.counted.type-inv (c.counted.ensures ∙ ap wrote (sym c.in-Line.is))
+returns-in-Line c = told c.counted.type_inv (c.counted.ensures ∙ ap wrote (sym c.in-Line.is))
 
 pub returns-in-NoRoom : goal.returns-in-NoRoom
-returns-in-NoRoom c = told c.refused.type-inv (c.refused.ensures ∙ ap wrote (sym c.in-NoRoom.is))
+returns-in-NoRoom c = told c.refused.type_inv (c.refused.ensures ∙ ap wrote (sym c.in-NoRoom.is))

@@ -8,4 +8,4 @@ pub answered-requires : goal.answered-requires
 answered-requires c = line_counted _ _ c.write_done-w.ensures (omega arith)
 
 pub returns : goal.returns
-returns c = line_written _ _ c.write_done-w.ensures (told c.answered.type-inv c.answered.ensures)
+returns c = line_written _ _ c.write_done-w.ensures (told c.answered.type_inv c.answered.ensures)

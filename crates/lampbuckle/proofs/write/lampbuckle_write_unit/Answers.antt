@@ -9,14 +9,14 @@ use Rattle.lampbuckle.proofs.write.lampbuckle_write_unit.Goals as goal
 
 pub returns-then-unit-ne-UNIT : goal.returns-then-unit-ne-UNIT
 unfolding unit_written unit_numbers_refusal
-returns-then-unit-ne-UNIT c = rw (ne_eqb _ _ c.if-unit-ne-UNIT.true, told c.refused.type-inv c.refused.ensures)
+returns-then-unit-ne-UNIT c = rw (ne_eqb _ _ c.if-unit-ne-UNIT.true, told c.refused.type_inv c.refused.ensures)
 
 pub returns-then-n-ne0 : goal.returns-then-n-ne0
-returns-then-n-ne0 c = unit_written_refused _ _ c.if-unit-ne-UNIT.false c.read_unit-u.ensures c.refusal-n.ensures c.if-n-ne0.true (told c.refused-then-n-ne0.type-inv c.refused-then-n-ne0.ensures)
+returns-then-n-ne0 c = unit_written_refused _ _ c.if-unit-ne-UNIT.false c.read_unit-u.ensures c.refusal-n.ensures c.if-n-ne0.true (told c.refused-then-n-ne0.type_inv c.refused-then-n-ne0.ensures)
 
 pub answered-requires : goal.answered-requires
 answered-requires c = line_counted _ _ c.write-w.ensures (omega arith)
 
 pub returns : goal.returns
 returns c =
-    unit_written_lem _ _ c.if-unit-ne-UNIT.false c.read_unit-u.ensures c.refusal-n.ensures c.if-n-ne0.false c.write-w.ensures (told c.answered.type-inv c.answered.ensures)
+    unit_written_lem _ _ c.if-unit-ne-UNIT.false c.read_unit-u.ensures c.refusal-n.ensures c.if-n-ne0.false c.write-w.ensures (told c.answered.type_inv c.answered.ensures)
