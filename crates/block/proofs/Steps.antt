@@ -133,4 +133,4 @@ module _ (x : AlignedRead) (answer spec : EditsChecked) (class : ℕ) (s : Block
   unedited n e h k = rw (← e, h) k
 
 -- each of them, for `search`
-pub ruleset blockSteps = (field_accepted, field_rejected, moved_accepted, moved_rejected, clipped, unclipped, clips_taken, edits_counted, edited, unedited)
+pub ruleset block_steps = (field_accepted, field_rejected, moved_accepted, moved_rejected, clipped, unclipped, clips_taken, edits_counted, edited, unedited)

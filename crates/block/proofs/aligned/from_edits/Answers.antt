@@ -1,10 +1,10 @@
 -- `block::aligned::from_edits` meets its contract: each step of the definition follows from what was read. Assumes nothing.
 use Rattle.frame.proofs.StepLaws.{steps}
-use Rattle.block.proofs.Steps.{blockSteps}
+use Rattle.block.proofs.Steps.{block_steps}
 use Rattle.block.proofs.aligned.from_edits.Goals as goal
 
 pub returns-in-Refused : goal.returns-in-Refused
-returns-in-Refused c = search (steps, blockSteps)
+returns-in-Refused c = search (steps, block_steps)
 
 pub returns-in-Value : goal.returns-in-Value
-returns-in-Value c = search (steps, blockSteps)
+returns-in-Value c = search (steps, block_steps)

@@ -8,13 +8,6 @@ use Rattle.block.proofs.LengthLaws.{last_length_lem, length_inside}
 use Rattle.block.proofs.Steps.{clip_reaches, clip_below}
 use Rattle.block.proofs.clips.within_pieces.Goals as goal
 
--- the length that is read last is the last
-abbrev start : tie.After-length-at2 → tie.Start
-start c = c.before.before.before.before.before.before
-
-last : (c : tie.After-length-at2) → c.length-at2.result ≡ last_length (lengths_in (start c).args.frame.now (start c).args.splices)
-last c = c.length-at2.ensures.0 ∙ sym (last_length_lem _ (start c).args.splices (start c).requires)
-
 pub returns-then-length_at-clips : goal.returns-then-length_at-clips
 unfolding clips_in_pieces
 returns-then-length_at-clips c = search (clip_reaches, clip_below, c.length_at.ensures.0)
@@ -27,8 +20,8 @@ overflow_add-last c =
 
 pub returns-then-length_at-clips-2 : goal.returns-then-length_at-clips-2
 unfolding clips_in_pieces
-returns-then-length_at-clips-2 c = search (clip_reaches, clip_below, c.length_at.ensures.0, last c)
+returns-then-length_at-clips-2 c = search (clip_reaches, clip_below, c.length_at.ensures.0, c.length_at-2.ensures.0 ∙ sym (last_length_lem _ c.args.splices c.requires))
 
 pub returns : goal.returns
 unfolding clips_in_pieces
-returns c = search (clip_reaches, clip_below, c.length_at.ensures.0, last c)
+returns c = search (clip_reaches, clip_below, c.length_at.ensures.0, c.length_at-2.ensures.0 ∙ sym (last_length_lem _ c.args.splices c.requires))
