@@ -351,9 +351,8 @@ module _ (u : Unit) (reference symbols frame : List ℕ) (q : Placed) (a : Segme
 
   ending : OfLast (λ (p : Piece). end_of p ≡ q.position + total moves_reference (listed_operations u symbols frame q)) pieces
   ending =
-      rw start.are
-      (is_last _ start.piece start.others
-      (omega (arith, begun, read_reference_lem u.alphabet q.block.rcomp (size_of u.alphabet) q.block.clips start.piece start.others apart (rw start.are at each_sound))))
+      let here = λ (p : Piece). end_of p ≡ q.position + total moves_reference (listed_operations u symbols frame q) in
+      subst (λ (l : List Piece). OfLast here l) (sym start.are) (is_last here start.piece start.others (omega (arith, reached)))
 
   fronts : OfFirst (λ (p : Piece). fronted p.start p.edits ≡ true) pieces
   unfolding pieces_in

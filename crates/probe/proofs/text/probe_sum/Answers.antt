@@ -21,7 +21,7 @@ pub loop-i-smaller : goal.loop-i-smaller
 loop-i-smaller c = omega arith
 
 pub loop-i-preserved : goal.loop-i-preserved
-loop-i-preserved c = (omega arith, c.wrapping_add_u32-sum.ensures ∙ sum_more _ _ c.loop-i.invariant.1 (c.value-v.ensures ∙ ap value_of c.read_u16.ensures))
+loop-i-preserved c = (omega arith, c.wrapping_add_u32-sum.ensures.value ∙ sum_more _ _ c.loop-i.invariant.1 (c.value-v.ensures ∙ ap value_of c.read_u16.ensures))
 
 pub returns : goal.returns
 returns c = let e : c.loop-i.i ≡ c.args.fields = omega arith in rw (← e) c.loop-i.invariant.1

@@ -8,14 +8,14 @@ unfolding segment_bytes
 write_aligned-requires c =
     let q = c.in-Aligned.is in
     let h = c.requires in
-    record { ready_aligned = rw q at h.0; p_in_bounds = rw q at h.1 }
+    record { ready_aligned = rw q at h.ready; p_in_bounds = rw q at h.segment_in_bounds }
 
 pub write_unaligned-requires : goal.write_unaligned-requires
 unfolding segment_bytes
 write_unaligned-requires c =
     let q = c.in-Unaligned.is in
     let h = c.requires in
-    record { ready_unaligned = rw q at h.0; s_in_bounds = rw q at h.1 }
+    record { ready_unaligned = rw q at h.ready; s_in_bounds = rw q at h.segment_in_bounds }
 
 pub returns-in-Aligned : goal.returns-in-Aligned
 unfolding segment_bytes
