@@ -324,6 +324,7 @@ class Turn:
         text = text.replace(".type-inv", ".type_inv")
         text = re.sub(r"not-(?:true|false) (?:_|\([^()]*\)) (c\.if-not[^\s().]*\.(?:true|false))", r"\1", text)
         text = re.sub(r"\((c\.if-not[^\s().]*\.(?:true|false))\)", r"\1", text)
+        more = "".join(" " + x for x in m.group(1).split()[1:] if x != "κs")
         names = self.it["asked"].get(key) or self.it["asked"].get(key.replace("-", "_"))
         for asked, listed in self.it["asked"].items():
             if norm(asked) == key:
@@ -347,7 +348,7 @@ class Turn:
                         if inside:
                             parts = [tactic.group(0) + "(" + x + ")" for x in inside.groups()]
                             text = text[:last] + " record { " + " ".join("%s = %s;" % (n, x) for n, x in zip(names, parts)) + " }"
-                            out.append("\n".join(comments + ["pub %s : goal.%s" % (new, new)] + unfolding + ["%s c =%s" % (new, text)]))
+                            out.append("\n".join(comments + ["pub %s : goal.%s" % (new, new)] + unfolding + ["%s c%s =%s" % (new, more, text)]))
                             return
                 inner = self.clause.get(self.callee.get(passed.group(2)), ([], []))[1] if passed else []
                 if len(inner) == 2:
@@ -359,7 +360,7 @@ class Turn:
                 self.say("%s: no tuple for %s" % (new, " ".join(n or "?" for n in names)))
             else:
                 text = as_record
-        out.append("\n".join(comments + ["pub %s : goal.%s" % (new, new)] + unfolding + ["%s c =%s" % (new, text)]))
+        out.append("\n".join(comments + ["pub %s : goal.%s" % (new, new)] + unfolding + ["%s c%s =%s" % (new, more, text)]))
 
 
 def main(argv):

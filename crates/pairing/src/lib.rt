@@ -1,7 +1,7 @@
 // The pair descriptor's symbols, and what they say of a record's mate (Table 60).
 #![tactic(auto)]
 
-ghost use Rattle.std.specs.Prelude.{◌≡◌};
+ghost use Rattle.std.specs.Prelude.{◌≡◌, ◌^◌, ◌<◌};
 ghost use Rattle.pairing.specs.Table60.{mate_seq_id, mapping_pos};
 ghost use Rattle.pairing.specs.Pairing.{pair_of};
 
@@ -46,7 +46,8 @@ impl Link {
 
     // The listed position of the mate of a record at pos, wider than u32 so that the sum never wraps.
     pub fn mate_position(self, pos: u32) -> u64
-        ensures { result ≡ mapping_pos pos self.mate }
+        ensures value { result ≡ mapping_pos pos self.mate }
+        ensures wide { result < 2 ^ 33 }
     {
         let mate = self.mate;
         match mate {

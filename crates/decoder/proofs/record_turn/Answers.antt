@@ -5,19 +5,11 @@ use borrow.Author.Rules.{rules}
 use Rattle.state.specs.State.{Shaped}
 use Rattle.decoder.proofs.record_turn.Goals as goal
 
--- a state has an index for each subsequence
-shaped : (start : tie.Start) → Shaped start.args.state
-shaped start = search rules
-
--- the unit's end has 32 bits
-fits : (start : tie.Start) → start.args.unit.end < 2 ^ 32
-fits start = search rules
-
 pub returns-then-line-eq0 : goal.returns-then-line-eq0
 returns-then-line-eq0 c = record { value = (record_missing _ _ _ _ _ _ _ c.if-line-eq0.true c.refuse.ensures).0; out_after = (record_missing _ _ _ _ _ _ _ c.if-line-eq0.true c.refuse.ensures).1 }
 
 pub returns-in-Listed : goal.returns-in-Listed
-returns-in-Listed c = record { value = (turn_listed _ _ _ _ _ _ _ c.if-line-eq0.false (fits c) (shaped c) c.requires at-record.«record».ensures _ c.in-Listed.is).0; out_after = (turn_listed _ _ _ _ _ _ _ c.if-line-eq0.false (fits c) (shaped c) c.requires at-record.«record».ensures _ c.in-Listed.is).1 }
+returns-in-Listed c = record { value = (turn_listed _ _ _ _ _ _ _ c.if-line-eq0.false (search rules) (search rules) c.requires c.record-r.ensures _ c.in-Listed.is).0; out_after = (turn_listed _ _ _ _ _ _ _ c.if-line-eq0.false (search rules) (search rules) c.requires c.record-r.ensures _ c.in-Listed.is).1 }
 
 pub returns-in-Refused : goal.returns-in-Refused
-returns-in-Refused c = record { value = (turn_refused _ _ _ _ _ _ _ c.if-line-eq0.false (fits c) (shaped c) c.requires at-record.«record».ensures _ c.in-Refused.is c.refuse-in-Refused.ensures).0; out_after = (turn_refused _ _ _ _ _ _ _ c.if-line-eq0.false (fits c) (shaped c) c.requires at-record.«record».ensures _ c.in-Refused.is c.refuse-in-Refused.ensures).1 }
+returns-in-Refused c = record { value = (turn_refused _ _ _ _ _ _ _ c.if-line-eq0.false (search rules) (search rules) c.requires c.record-r.ensures _ c.in-Refused.is c.refuse-in-Refused.ensures).0; out_after = (turn_refused _ _ _ _ _ _ _ c.if-line-eq0.false (search rules) (search rules) c.requires c.record-r.ensures _ c.in-Refused.is c.refuse-in-Refused.ensures).1 }

@@ -5,15 +5,11 @@ use Rattle.record.proofs.CallLaws.{read_step_lem, number_fits, frame_ready}
 use borrow.Author.Rules.{rules}
 use Rattle.record.proofs.of_frame.Goals as goal
 
--- the unit's end has 32 bits
-fits : (s : tie.Start) → s.args.unit.end < 2 ^ 32
-fits s = search rules
-
 pub settle-requires : goal.settle-requires
 settle-requires c =
     let a = c.args in
     let lent = c.requires.state_value in
-    let framed = c.requires.by_index in record { ready_plan = ((frame_ready a.unit a.reference.now a.symbols.now a.counts.now a.state refl framed.0 a.frame.now lent (fits c) framed.1 c.read-reading.ensures c.in-Whole.is, number_fits a.unit a.reference.now a.symbols.now a.counts.now a.state refl lent)).0; number_lt_most_records = ((frame_ready a.unit a.reference.now a.symbols.now a.counts.now a.state refl framed.0 a.frame.now lent (fits c) framed.1 c.read-reading.ensures c.in-Whole.is, number_fits a.unit a.reference.now a.symbols.now a.counts.now a.state refl lent)).1 }
+    let framed = c.requires.by_index in record { ready_plan = frame_ready a.unit a.reference.now a.symbols.now a.counts.now a.state refl framed.0 a.frame.now lent (search rules) framed.1 c.read-reading.ensures c.in-Whole.is; number_lt_most_records = number_fits a.unit a.reference.now a.symbols.now a.counts.now a.state refl lent }
 
 pub returns-in-Refused : goal.returns-in-Refused
 returns-in-Refused c = record { value = rw (read_step_lem _ _ _ _ _ _ c.read-reading.ensures, c.in-Refused.is) (c.refused.ensures); out_after = rw (read_step_lem _ _ _ _ _ _ c.read-reading.ensures, c.in-Refused.is) (refl) }

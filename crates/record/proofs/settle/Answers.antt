@@ -15,32 +15,20 @@ use Rattle.record.proofs.RoomLaws.{record_no_room, record_room}
 use borrow.Author.Rules.{rules}
 use Rattle.record.proofs.settle.Goals as goal
 
-abbrev next : tie.Start → State
-next s = after s.args.state s.args.moved
-
-abbrev bytes : tie.Start → List ℕ
-bytes s = listed_bytes s.args.unit s.args.reference.now s.args.symbols.now s.args.frame.now s.args.state.number (next s) s.args.p
-
-all : (s : tie.Start) → Shaped s.args.moved
-all s = search rules
-
-long : (s : tie.Start) → length (bytes s) ≡ least_listed + segment_length s.args.p.first + segment_length s.args.p.second
-long s = length_listed _ _ _ _ s.args.state.number (next s) s.args.p (all s) s.requires.0
-
 pub returns-then-out-bytes : goal.returns-then-out-bytes
 returns-then-out-bytes c =
-    let w = record_no_room c.args.state (next c) c.args.out.now (bytes c) (omega (arith, long c, c.bytes.ensures, c.bytes-2.ensures, c.if-out-bytes.true)) in record { value = c.refused.ensures ∙ w.0; out_after = w.1 }
+    let w = record_no_room c.args.state (after c.args.state c.args.moved) c.args.out.now (listed_bytes c.args.unit c.args.reference.now c.args.symbols.now c.args.frame.now c.args.state.number (after c.args.state c.args.moved) c.args.p) (omega (arith, length_listed c.args.unit c.args.reference.now c.args.symbols.now c.args.frame.now c.args.state.number (after c.args.state c.args.moved) c.args.p (search rules) c.requires.ready_plan, c.bytes.ensures, c.bytes-2.ensures, c.if-out-bytes.true)) in record { value = c.refused.ensures ∙ w.0; out_after = w.1 }
 
 pub write-end-requires : goal.write-end-requires
 write-end-requires c =
-    record { ready_plan = c.requires.ready_plan; p_in_bounds = omega (arith, long c, c.bytes.ensures, c.bytes-2.ensures, c.if-out-bytes.false) }
+    record { ready_plan = c.requires.ready_plan; p_in_bounds = omega (arith, length_listed c.args.unit c.args.reference.now c.args.symbols.now c.args.frame.now c.args.state.number (after c.args.state c.args.moved) c.args.p (search rules) c.requires.ready_plan, c.bytes.ensures, c.bytes-2.ensures, c.if-out-bytes.false) }
 
 pub bounds-out-end : goal.bounds-out-end
 bounds-out-end c =
-    omega (arith, long c, c.bytes.ensures, c.bytes-2.ensures, c.if-out-bytes.false, c.write-end.ensures.to, length_laid {xs = bytes s} c.write-end.ensures)
+    omega (arith, length_listed c.args.unit c.args.reference.now c.args.symbols.now c.args.frame.now c.args.state.number (after c.args.state c.args.moved) c.args.p (search rules) c.requires.ready_plan, c.bytes.ensures, c.bytes-2.ensures, c.if-out-bytes.false, c.write-end.ensures.to, length_laid {xs = listed_bytes c.args.unit c.args.reference.now c.args.symbols.now c.args.frame.now c.args.state.number (after c.args.state c.args.moved) c.args.p} c.write-end.ensures)
 
 pub shape_of-out : goal.shape_of-out
 shape_of-out c = simp length-set (length_laid c.write-end.ensures)
 
 pub returns : goal.returns
-returns c = record { value = (record_room c.args.state (next c) _ (bytes c) (omega (arith, long c, c.bytes.ensures, c.bytes-2.ensures, c.if-out-bytes.false)) c.write-end.ensures).0; out_after = (record_room c.args.state (next c) _ (bytes c) (omega (arith, long c, c.bytes.ensures, c.bytes-2.ensures, c.if-out-bytes.false)) c.write-end.ensures).1 }
+returns c = record { value = (record_room c.args.state (after c.args.state c.args.moved) _ (listed_bytes c.args.unit c.args.reference.now c.args.symbols.now c.args.frame.now c.args.state.number (after c.args.state c.args.moved) c.args.p) (omega (arith, length_listed c.args.unit c.args.reference.now c.args.symbols.now c.args.frame.now c.args.state.number (after c.args.state c.args.moved) c.args.p (search rules) c.requires.ready_plan, c.bytes.ensures, c.bytes-2.ensures, c.if-out-bytes.false)) c.write-end.ensures).0; out_after = (record_room c.args.state (after c.args.state c.args.moved) _ (listed_bytes c.args.unit c.args.reference.now c.args.symbols.now c.args.frame.now c.args.state.number (after c.args.state c.args.moved) c.args.p) (omega (arith, length_listed c.args.unit c.args.reference.now c.args.symbols.now c.args.frame.now c.args.state.number (after c.args.state c.args.moved) c.args.p (search rules) c.requires.ready_plan, c.bytes.ensures, c.bytes-2.ensures, c.if-out-bytes.false)) c.write-end.ensures).1 }

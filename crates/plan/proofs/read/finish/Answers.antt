@@ -5,8 +5,8 @@ use Rattle.taking.specs.Steps.{decode}
 use Rattle.plan.proofs.read.finish.Goals as goal
 
 pub returns-then-at-frame : goal.returns-then-at-frame
-returns-then-at-frame c = refused_steps _ _ symbols counts _ _ _ (left_over _ _ _ c.if-at-frame.true) c.refused.ensures
+returns-then-at-frame c symbols counts = refused_steps _ _ symbols counts _ _ _ (left_over _ _ _ c.if-at-frame.true) c.refused.ensures
 
 pub returns : goal.returns
 unfolding decode
-returns c = same_steps _ _ symbols counts _ _ _ (none_left _ _ _ c.if-at-frame.false) refl
+returns c symbols counts = same_steps _ _ symbols counts _ _ _ (none_left _ _ _ c.if-at-frame.false) refl

@@ -14,40 +14,37 @@ use Rattle.frame.proofs.DecodeLaws.{count, decoded_is, decoded_front}
 use Rattle.record.proofs.sized.within.Goals as goal
 
 -- the frame has half as many bytes as the line
-abbrev half : tie.Start → ℕ
-half s = length s.args.line.now / 2
+half_is : (line : List ℕ) (size : ℕ) → line_of line ≡ Frame size → length line / 2 ≡ size
+half_is line size e = omega (arith, (frame_is_line line_digits line size e).long)
 
-half_is : (s : tie.Start) → half s ≡ s.requires.1.0
-half_is s = omega (arith, (frame_is_line line_digits _ _ s.requires.1.1.0).long)
+formed : (line : List ℕ) (size : ℕ) → line_of line ≡ Frame size → line_of line ≡ Frame (length line / 2)
+formed line size e = rw (half_is line size e) e
 
-formed : (s : tie.Start) → line_of s.args.line.now ≡ Frame (half s)
-formed s = rw (half_is s) s.requires.1.1.0
+room : (line own : List ℕ) (size : ℕ) → line_of line ≡ Frame size → size ≤ length own → length line / 2 ≤ length own
+room line own size e h = omega (arith, half_is line size e, h)
 
-room : (s : tie.Start) → half s ≤ length s.args.own.now
-room s = omega (arith, half_is s, s.requires.1.1.1)
-
-front : (s : tie.Start) {f : List ℕ} (rest : List ℕ) → f ≡ stored_at (take (half s) s.args.own.now) 0 (take (length (take (half s) s.args.own.now)) (unhex s.args.line.now))
-    → take (half s) (f ++ rest) ≡ unhex s.args.line.now
-front s rest e = decoded_front _ _ (formed s) rest (decoded_is _ _ (formed s) _ (room s) e)
+front : (line own : List ℕ) (size : ℕ) → line_of line ≡ Frame size → size ≤ length own → {f : List ℕ} (rest : List ℕ)
+    → f ≡ stored_at (take (length line / 2) own) 0 (take (length (take (length line / 2) own)) (unhex line)) → take (length line / 2) (f ++ rest) ≡ unhex line
+front line own size e h rest q = decoded_front _ _ (formed line size e) rest (decoded_is _ _ (formed line size e) _ (room line own size e h) q)
 
 pub slice_bounds-decode-end : goal.slice_bounds-decode-end
-slice_bounds-decode-end c = room c
+slice_bounds-decode-end c = room c.args.line.now c.args.own.now c.requires.by_index.0 c.requires.by_index.1.0 c.requires.by_index.1.1
 
 pub slice_bounds-decode-end-2 : goal.slice_bounds-decode-end-2
-slice_bounds-decode-end-2 c = sym (length-take-le _ _ (room c))
+slice_bounds-decode-end-2 c = sym (length-take-le _ _ (room c.args.line.now c.args.own.now c.requires.by_index.0 c.requires.by_index.1.0 c.requires.by_index.1.1))
 
 pub slice_bounds-of_frame-end : goal.slice_bounds-of_frame-end
 slice_bounds-of_frame-end c =
-    rw (length-append, decoded_is _ _ (formed c) _ (room c) c.decode.ensures) (omega (arith, count _ _ (formed c)))
+    rw (length-append, decoded_is _ _ (formed c.args.line.now c.requires.by_index.0 c.requires.by_index.1.0) _ (room c.args.line.now c.args.own.now c.requires.by_index.0 c.requires.by_index.1.0 c.requires.by_index.1.1) c.decode.ensures) (omega (arith, count _ _ (formed c.args.line.now c.requires.by_index.0 c.requires.by_index.1.0)))
 
 pub slice_bounds-of_frame-end-2 : goal.slice_bounds-of_frame-end-2
 slice_bounds-of_frame-end-2 c =
-    rw (front c _ c.decode.ensures) (count _ _ (formed c))
+    rw (front c.args.line.now c.args.own.now c.requires.by_index.0 c.requires.by_index.1.0 c.requires.by_index.1.1 _ c.decode.ensures) (count _ _ (formed c.args.line.now c.requires.by_index.0 c.requires.by_index.1.0))
 
 pub of_frame-requires : goal.of_frame-requires
 of_frame-requires c =
-    record { state_value = c.requires.state_value; by_index = (c.args.line.now, record { size = half c; well_formed = formed c; bytes = front c _ c.decode.ensures }) }
+    record { state_value = c.requires.state_value; by_index = (c.args.line.now, record { size = length c.args.line.now / 2; well_formed = formed c.args.line.now c.requires.by_index.0 c.requires.by_index.1.0; bytes = front c.args.line.now c.args.own.now c.requires.by_index.0 c.requires.by_index.1.0 c.requires.by_index.1.1 _ c.decode.ensures }) }
 
 pub returns : goal.returns
 returns c =
-    let e = c.of_frame.ensures in record { value = (rw (front c _ c.decode.ensures) at e).0; out_after = (rw (front c _ c.decode.ensures) at e).1 }
+    record { value = rw (front c.args.line.now c.args.own.now c.requires.by_index.0 c.requires.by_index.1.0 c.requires.by_index.1.1 _ c.decode.ensures) at c.of_frame.ensures.value; out_after = rw (front c.args.line.now c.args.own.now c.requires.by_index.0 c.requires.by_index.1.0 c.requires.by_index.1.1 _ c.decode.ensures) at c.of_frame.ensures.out_after }

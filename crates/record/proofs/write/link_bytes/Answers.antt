@@ -6,4 +6,4 @@ use Rattle.record.proofs.write.link_bytes.Goals as goal
 
 pub returns : goal.returns
 unfolding link_bytes be
-returns c = simp (div-one, c.mate_sequence-sequence.ensures, c.mate_position-position.ensures)
+returns c = simp (div-one, c.mate_sequence-sequence.ensures, c.mate_position-position.ensures.value)
