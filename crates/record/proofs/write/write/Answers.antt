@@ -39,6 +39,10 @@ pub slice_bounds-write-count : goal.slice_bounds-write-count
 slice_bounds-write-count c =
     omega (arith, room_next _ (laid_then (laid_then c.put_head-a.ensures c.put_link-b.ensures) c.write-c.ensures) (room c.args.unit c.args.reference.now c.args.symbols.now c.args.frame.now c.args.out.now c.args.number c.args.next c.args.p c.requires.p_in_bounds))
 
+pub slice_bounds-write-start : goal.slice_bounds-write-start
+slice_bounds-write-start c =
+    omega (arith, room_next _ (laid_then (laid_then c.put_head-a.ensures c.put_link-b.ensures) c.write-c.ensures) (room c.args.unit c.args.reference.now c.args.symbols.now c.args.frame.now c.args.out.now c.args.number c.args.next c.args.p c.requires.p_in_bounds))
+
 pub write-d-requires : goal.write-d-requires
 write-d-requires c =
     record { ready = c.requires.ready_plan.second; segment_in_bounds = omega (arith, room_next _ (laid_then (laid_then c.put_head-a.ensures c.put_link-b.ensures) c.write-c.ensures) (room c.args.unit c.args.reference.now c.args.symbols.now c.args.frame.now c.args.out.now c.args.number c.args.next c.args.p c.requires.p_in_bounds)) }
