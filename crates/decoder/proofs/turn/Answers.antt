@@ -6,7 +6,7 @@ pub returns-then-out-le-DIGITS : goal.returns-then-out-le-DIGITS
 returns-then-out-le-DIGITS c = record { value = (turn_short _ _ _ _ _ _ _ c.if-out-le-DIGITS.true).0; out_after = (turn_short _ _ _ _ _ _ _ c.if-out-le-DIGITS.true).1 }
 
 pub returns-then-state-unit : goal.returns-then-state-unit
-returns-then-state-unit c = record { value = (turn_record _ _ _ _ _ _ _ c.if-out-le-DIGITS.false c.if-state-unit.true c.record_turn.ensures).0; out_after = (turn_record _ _ _ _ _ _ _ c.if-out-le-DIGITS.false c.if-state-unit.true c.record_turn.ensures).1 }
+returns-then-state-unit c = record { value = (turn_record _ _ _ _ _ _ _ c.if-out-le-DIGITS.false c.if-state-unit.true (c.record_turn.ensures.value, c.record_turn.ensures.out_after)).0; out_after = (turn_record _ _ _ _ _ _ _ c.if-out-le-DIGITS.false c.if-state-unit.true (c.record_turn.ensures.value, c.record_turn.ensures.out_after)).1 }
 
 pub returns : goal.returns
-returns c = record { value = (turn_last _ _ _ _ _ _ _ c.if-out-le-DIGITS.false c.if-state-unit.false c.last_turn.ensures).0; out_after = (turn_last _ _ _ _ _ _ _ c.if-out-le-DIGITS.false c.if-state-unit.false c.last_turn.ensures).1 }
+returns c = record { value = (turn_last _ _ _ _ _ _ _ c.if-out-le-DIGITS.false c.if-state-unit.false (c.last_turn.ensures.value, c.last_turn.ensures.out_after)).0; out_after = (turn_last _ _ _ _ _ _ _ c.if-out-le-DIGITS.false c.if-state-unit.false (c.last_turn.ensures.value, c.last_turn.ensures.out_after)).1 }

@@ -15,8 +15,8 @@ pub returns-then-n-ne0 : goal.returns-then-n-ne0
 returns-then-n-ne0 c = unit_written_refused _ _ c.if-unit-ne-UNIT.false c.read_unit-u.ensures c.refusal-n.ensures c.if-n-ne0.true (told c.refused-then-n-ne0.type_inv c.refused-then-n-ne0.ensures)
 
 pub answered-requires : goal.answered-requires
-answered-requires c = line_counted _ _ c.write-w.ensures (omega arith)
+answered-requires c = line_counted _ _ (c.write-w.ensures.value, c.write-w.ensures.out_after) (omega arith)
 
 pub returns : goal.returns
 returns c =
-    unit_written_lem _ _ c.if-unit-ne-UNIT.false c.read_unit-u.ensures c.refusal-n.ensures c.if-n-ne0.false c.write-w.ensures (told c.answered.type_inv c.answered.ensures)
+    unit_written_lem _ _ c.if-unit-ne-UNIT.false c.read_unit-u.ensures c.refusal-n.ensures c.if-n-ne0.false (c.write-w.ensures.value, c.write-w.ensures.out_after) (told c.answered.type_inv c.answered.ensures)
