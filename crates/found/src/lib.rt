@@ -6,13 +6,15 @@ ghost use Rattle.found.specs.Code.Found.{EdgeWithin};
 
 use front::unit_line::UnitLine;
 use kept::keep::Keep;
-use libc::STDERR_FILENO;
 use opening::files::FrontRead;
 use opening::first::write_first;
 use program::sink::write;
+use program::system::fail;
 use resuming::place::{Go, place};
 use state::State;
 use state::listed::ListedLine;
+use std::fs::File;
+use std::io::{Error, ErrorKind};
 use stream::source::{Source, piece, ready};
 use writing::lay::Wrote;
 
@@ -24,16 +26,16 @@ const FIRST: usize = 2 * UnitLine::BYTES + 1;
 
 // What is known of the file, and how far it is read.
 #[derive(Drop)]
-struct Scanned {
+struct Scanned<'a> {
     keep: Keep,
-    source: Source,
+    source: Source<&'a File>,
 }
 
 // So many bytes of a line, or that it cannot be read.
 #[derive(Drop)]
 enum Edge {
     Bytes(usize),
-    Unread,
+    Unread(Error),
 }
 
 // Where the listing goes on, from which state, and how many bytes are kept; or that the file cannot be read.
@@ -42,10 +44,11 @@ pub struct Found {
     pub go: Go,
     pub state: State,
     pub kept: usize,
-    pub failed: bool,
+    // Why it cannot be read.
+    pub failed: Option<Error>,
 }
 
-fn scan_piece(s: Scanned, buf: &mut [u8]) -> Scanned {
+fn scan_piece<'a>(s: Scanned<'a>, buf: &mut [u8]) -> Scanned<'a> {
     let part = piece(s.source, buf);
     let from = part.from;
     let to = part.to;
@@ -56,10 +59,10 @@ fn scan_piece(s: Scanned, buf: &mut [u8]) -> Scanned {
 }
 
 // Reads the file up to its end or its first zero byte. Nothing says that a file ends, so the loop counts its turns down, from a number that no run uses up.
-fn scan(fd: i32, buf: &mut [u8]) -> Scanned {
+fn scan<'a>(file: &'a File, buf: &mut [u8]) -> Scanned<'a> {
     let mut s = Scanned {
         keep: Keep::new(),
-        source: Source::new(fd),
+        source: Source::new(file),
     };
     let mut turns = u64::MAX;
     while turns > 0 {
@@ -82,12 +85,12 @@ fn least(a: usize, b: usize) -> usize
 }
 
 // So much of the bytes from a place up to another as there is room for.
-fn read_edge(fd: i32, from: usize, to: usize, edge: &mut [u8]) -> Edge
+fn read_edge(file: &File, from: usize, to: usize, edge: &mut [u8]) -> Edge
     ensures { EdgeWithin (length edge.new) result }
 {
-    let r = ready(Source::from(fd, from), edge, edge.len());
-    if r.failed {
-        return Edge::Unread;
+    let r = ready(Source::from(file, from), edge, edge.len());
+    if let Some(cause) = r.failed {
+        return Edge::Unread(cause);
     }
     if to < from {
         return Edge::Bytes(0);
@@ -95,12 +98,12 @@ fn read_edge(fd: i32, from: usize, to: usize, edge: &mut [u8]) -> Edge
     Edge::Bytes(least(to - from, r.end))
 }
 
-fn unread() -> Found {
+fn unread(cause: Error) -> Found {
     Found {
         go: Go::Over,
         state: State::fresh(),
         kept: 0,
-        failed: true,
+        failed: Some(cause),
     }
 }
 
@@ -115,18 +118,20 @@ fn record_count(front: FrontRead) -> u32 {
 }
 
 // The first and the last kept line are read again, and put beside the listing's first line.
-fn look(fd: i32, keep: Keep, front: FrontRead, counts: &[u32]) -> Found {
+fn look(file: &File, keep: Keep, front: FrontRead, counts: &[u32]) -> Found {
     let mut first = [0u8; EDGE];
-    let Edge::Bytes(a) = read_edge(fd, 0, keep.first, &mut first) else {
-        return unread();
+    let a = match read_edge(file, 0, keep.first, &mut first) {
+        Edge::Bytes(n) => n,
+        Edge::Unread(cause) => return unread(cause),
     };
     let mut last = [0u8; EDGE];
-    let Edge::Bytes(z) = read_edge(fd, keep.last, keep.kept, &mut last) else {
-        return unread();
+    let z = match read_edge(file, keep.last, keep.kept, &mut last) {
+        Edge::Bytes(n) => n,
+        Edge::Unread(cause) => return unread(cause),
     };
     let mut listed = [0u8; FIRST];
     let Wrote::Line(n) = write_first(&mut listed, front) else {
-        return unread();
+        return unread(Error::from(ErrorKind::InvalidInput));
     };
     let count = record_count(front);
     let placed = place(&listed[0..n], count, counts, &first[0..a], &last[0..z]);
@@ -136,32 +141,32 @@ fn look(fd: i32, keep: Keep, front: FrontRead, counts: &[u32]) -> Found {
         go,
         state,
         kept: keep.kept,
-        failed: false,
+        failed: None,
     }
 }
 
 // What a found file comes to, for a front with these symbol counts.
-pub fn find(fd: i32, front: FrontRead, counts: &[u32], buf: &mut [u8]) -> Found {
-    let s = scan(fd, buf);
-    if s.source.failed {
-        return unread();
+pub fn find(file: &File, front: FrontRead, counts: &[u32], buf: &mut [u8]) -> Found {
+    let s = scan(file, buf);
+    if let Some(cause) = s.source.failed {
+        return unread(cause);
     }
-    look(fd, s.keep, front, counts)
+    look(file, s.keep, front, counts)
 }
 
 // The file could not be read on, or ended before all that was kept of it.
-fn say_short(path: &[u8], failed: bool) {
-    if failed {
-        os::fail(path);
+fn say_short(rt: &HostRuntime, path: &[u8], failed: Option<Error>) {
+    if let Some(cause) = failed {
+        fail(rt, path, cause);
         return;
     }
-    io::write_all(STDERR_FILENO, path);
-    io::write_all(STDERR_FILENO, b": shorter than it was\n");
+    let _ = rt.stderr().write_all(path);
+    let _ = rt.stderr().write_all(b": shorter than it was\n");
 }
 
 // Whether the first `kept` bytes of the file were written; where not, why not was said.
-pub fn copy(fd: i32, kept: usize, path: &[u8], buf: &mut [u8]) -> bool {
-    let mut source = Source::from(fd, 0);
+pub fn copy(rt: &HostRuntime, file: &File, kept: usize, path: &[u8], buf: &mut [u8]) -> bool {
+    let mut source = Source::from(file, 0);
     let mut left = kept;
     while left > 0 {
         let part = piece(source, buf);
@@ -169,10 +174,10 @@ pub fn copy(fd: i32, kept: usize, path: &[u8], buf: &mut [u8]) -> bool {
         let from = part.from;
         let n = least(part.to - from, left);
         if n == 0 {
-            say_short(path, source.failed);
+            say_short(rt, path, source.failed);
             return false;
         }
-        if !write(&buf[from..from + n]) {
+        if !write(rt, &buf[from..from + n]) {
             return false;
         }
         left -= n;

@@ -2,27 +2,28 @@
 // A listing that ends in 05 is an answer like any other. What goes wrong outside of the lines, such as a file that is not there, is said on standard error.
 #![tactic(auto)]
 
-use libc::{STDERR_FILENO, STDOUT_FILENO};
 use opening::files::{FrontRead, open};
 use opening::first::with_first;
-use program::args::{asks_help, is_whole};
+use program::args::{asks_help, count, path};
+use program::buffer::{path_buffer, piece_buffer};
 use program::sink::Sink;
 use rest::{finish, rest};
 use state::State;
 use unit::{Pairs, Unit};
 
-fn usage(fd: i32) {
-    io::write_all(fd, b"usage: list [REFERENCE UNIT]\n");
-    io::write_all(fd, b"Writes the listing of a unit to standard output.\n");
-    io::write_all(fd, b"Without paths it reads reference.hex and unit.hex.\n");
+fn usage(out: &impl Print) {
+    let _ = out.write_all(b"usage: list [REFERENCE UNIT]\n");
+    let _ = out.write_all(b"Writes the listing of a unit to standard output.\n");
+    let _ = out.write_all(b"Without paths it reads reference.hex and unit.hex.\n");
 }
 
-fn list(reference_path: &[u8], unit_path: &[u8]) {
-    let mut buf = io::large_buffer();
-    let mut out = io::large_buffer();
+fn list(rt: &HostRuntime, reference_path: &[u8], unit_path: &[u8]) {
+    let mut buf = piece_buffer();
+    let mut out = piece_buffer();
     let mut reference = [0u8; Unit::REFERENCE];
     let mut symbols = [0u32; Pairs::TABLE];
     let opened = open(
+        rt,
         reference_path,
         unit_path,
         &mut buf,
@@ -33,8 +34,9 @@ fn list(reference_path: &[u8], unit_path: &[u8]) {
     if let FrontRead::Unread = front {
         return;
     }
-    let sink = with_first(Sink::new(), &mut out, front);
+    let sink = with_first(rt, Sink::new(), &mut out, front);
     let run = rest(
+        rt,
         opened,
         &reference,
         &symbols,
@@ -43,36 +45,34 @@ fn list(reference_path: &[u8], unit_path: &[u8]) {
         &mut buf,
         &mut out,
     );
-    finish(run, unit_path, &out);
+    finish(rt, run, unit_path, &out);
 }
 
-fn list_named() {
-    let mut reference_path = io::buffer();
-    let mut unit_path = io::buffer();
-    let a = os::arg(1, &mut reference_path);
-    if !is_whole() {
+fn list_named(rt: &HostRuntime) {
+    let mut reference_path = path_buffer();
+    let mut unit_path = path_buffer();
+    let Some(a) = path(rt, 1, &mut reference_path) else {
         return;
-    }
-    let b = os::arg(2, &mut unit_path);
-    if !is_whole() {
+    };
+    let Some(b) = path(rt, 2, &mut unit_path) else {
         return;
-    }
-    list(&reference_path[..a], &unit_path[..b]);
+    };
+    list(rt, &reference_path[..a], &unit_path[..b]);
 }
 
-fn main() {
-    let words = os::arg_count();
+fn main(rt: HostRuntime) {
+    let words = count(&rt);
     if words <= 1 {
-        list(b"reference.hex", b"unit.hex");
+        list(&rt, b"reference.hex", b"unit.hex");
         return;
     }
     if words == 3 {
-        list_named();
+        list_named(&rt);
         return;
     }
-    if asks_help() {
-        usage(STDOUT_FILENO);
+    if asks_help(&rt) {
+        usage(&rt.stdout());
         return;
     }
-    usage(STDERR_FILENO);
+    usage(&rt.stderr());
 }

@@ -5,6 +5,9 @@ use front::pair_line::PairLine;
 use front::reference_line::ReferenceLine;
 use front::unit_line::UnitLine;
 use front::{pair_line, reference_line, unit_line};
+use program::system::{fail, open_read};
+use std::fs::File;
+use std::io::Error;
 use stream::source::{Source, take};
 use unit::{Pairs, Unit};
 
@@ -26,7 +29,7 @@ pub struct OpenFiles {
     pub front: FrontRead,
     pub bases: usize,
     pub counts: [u32; Pairs::SUBSEQUENCES],
-    pub source: Source,
+    pub source: Source<File>,
 }
 
 // What the reference file comes to.
@@ -34,7 +37,7 @@ pub struct OpenFiles {
 enum Based {
     Bases(usize),
     Refused(u32),
-    Unread,
+    Unread(Error),
 }
 
 // What one line of it comes to: so many bases now, or the file's end.
@@ -43,31 +46,31 @@ enum BaseLine {
     More(usize),
     Done,
     Refused(u32),
-    Unread,
+    Unread(Error),
 }
 
 #[derive(Drop)]
 struct AddedLine {
     added: BaseLine,
-    source: Source,
+    source: Source<File>,
 }
 
 #[derive(Drop)]
 struct PairTaken {
     answer: PairLine,
-    source: Source,
+    source: Source<File>,
 }
 
-fn add_bases(s: Source, buf: &mut [u8], reference: &mut [u8], bases: usize) -> AddedLine
+fn add_bases(s: Source<File>, buf: &mut [u8], reference: &mut [u8], bases: usize) -> AddedLine
     ensures { Grows bases result.added }
 {
     let line = take(s, buf);
     let from = line.from;
     let to = line.to;
     let source = line.source;
-    if source.failed {
+    if let Some(cause) = source.failed {
         return AddedLine {
-            added: BaseLine::Unread,
+            added: BaseLine::Unread(cause),
             source,
         };
     }
@@ -90,7 +93,7 @@ fn add_bases(s: Source, buf: &mut [u8], reference: &mut [u8], bases: usize) -> A
 }
 
 // Every line adds a base, and there is a most of them, so that the loop ends.
-fn read_reference(s: Source, buf: &mut [u8], reference: &mut [u8]) -> Based {
+fn read_reference(s: Source<File>, buf: &mut [u8], reference: &mut [u8]) -> Based {
     let mut source = s;
     let mut bases: usize = 0;
     loop {
@@ -106,30 +109,27 @@ fn read_reference(s: Source, buf: &mut [u8], reference: &mut [u8]) -> Based {
             BaseLine::Refused(n) => {
                 return Based::Refused(n);
             }
-            BaseLine::Unread => {
-                return Based::Unread;
+            BaseLine::Unread(cause) => {
+                return Based::Unread(cause);
             }
         }
         source = line.source;
     }
 }
 
-fn open_reference(path: &[u8], buf: &mut [u8], reference: &mut [u8]) -> Based {
-    let fd = os::open_read(path);
-    if fd < 0 {
-        os::fail(path);
-        return Based::Unread;
+fn open_reference(rt: &HostRuntime, path: &[u8], buf: &mut [u8], reference: &mut [u8]) -> Based {
+    let based = match open_read(rt, path) {
+        Ok(file) => read_reference(Source::new(file), buf, reference),
+        Err(cause) => Based::Unread(cause),
+    };
+    if let Based::Unread(cause) = based {
+        fail(rt, path, cause);
     }
-    let based = read_reference(Source::new(fd), buf, reference);
-    if let Based::Unread = based {
-        os::fail(path);
-    }
-    libc::close(fd);
     based
 }
 
 // A front behind which nothing is read.
-fn closed(front: FrontRead, source: Source) -> OpenFiles {
+fn closed(front: FrontRead, source: Source<File>) -> OpenFiles {
     OpenFiles {
         front,
         bases: 0,
@@ -139,7 +139,7 @@ fn closed(front: FrontRead, source: Source) -> OpenFiles {
 }
 
 // A file that ends where a pair line is wanted is refused as the line would be.
-fn add_symbols(s: Source, buf: &mut [u8], symbols: &mut [u32], number: u32) -> PairTaken {
+fn add_symbols(s: Source<File>, buf: &mut [u8], symbols: &mut [u32], number: u32) -> PairTaken {
     let line = take(s, buf);
     let from = line.from;
     let to = line.to;
@@ -158,7 +158,7 @@ fn add_symbols(s: Source, buf: &mut [u8], symbols: &mut [u32], number: u32) -> P
 fn read_pairs(
     unit: Unit,
     bases: usize,
-    s: Source,
+    s: Source<File>,
     buf: &mut [u8],
     symbols: &mut [u32],
 ) -> OpenFiles {
@@ -168,7 +168,7 @@ fn read_pairs(
     while i < Pairs::SUBSEQUENCES {
         let paired = add_symbols(source, buf, symbols, i as u32);
         source = paired.source;
-        if source.failed {
+        if source.failed.is_some() {
             return closed(FrontRead::Unread, source);
         }
         let answer = paired.answer;
@@ -191,12 +191,12 @@ fn read_pairs(
 }
 
 // The unit file up to its record lines, where the reference has so many bases.
-fn read_unit(bases: usize, s: Source, buf: &mut [u8], symbols: &mut [u32]) -> OpenFiles {
+fn read_unit(bases: usize, s: Source<File>, buf: &mut [u8], symbols: &mut [u32]) -> OpenFiles {
     let line = take(s, buf);
     let from = line.from;
     let to = line.to;
     let source = line.source;
-    if source.failed {
+    if source.failed.is_some() {
         return closed(FrontRead::Unread, source);
     }
     if from == to {
@@ -210,26 +210,28 @@ fn read_unit(bases: usize, s: Source, buf: &mut [u8], symbols: &mut [u32]) -> Op
 
 // Opens both files, and reads as far as is told by them. The reference is closed again before the unit file is opened, so that one program may write both into pipes, one after the other.
 pub fn open(
+    rt: &HostRuntime,
     reference_path: &[u8],
     unit_path: &[u8],
     buf: &mut [u8],
     reference: &mut [u8],
     symbols: &mut [u32],
 ) -> OpenFiles {
-    let based = open_reference(reference_path, buf, reference);
-    let fd = os::open_read(unit_path);
-    let source = Source::new(fd);
-    if fd < 0 {
-        os::fail(unit_path);
-        return closed(FrontRead::Unread, source);
-    }
+    let based = open_reference(rt, reference_path, buf, reference);
+    let source = match open_read(rt, unit_path) {
+        Ok(file) => Source::new(file),
+        Err(cause) => {
+            fail(rt, unit_path, cause);
+            return closed(FrontRead::Unread, Source::unreadable(None, cause));
+        }
+    };
     match based {
-        Based::Unread => closed(FrontRead::Unread, source),
+        Based::Unread(_) => closed(FrontRead::Unread, source),
         Based::Refused(n) => closed(FrontRead::Alone(n), source),
         Based::Bases(n) => {
             let opened = read_unit(n, source, buf, symbols);
-            if opened.source.failed {
-                os::fail(unit_path);
+            if let Some(cause) = opened.source.failed {
+                fail(rt, unit_path, cause);
             }
             opened
         }

@@ -21,8 +21,8 @@ pub fn write_first(out: &mut [u8], front: FrontRead) -> Wrote
     }
 }
 
-pub fn with_first(k: Sink, out: &mut [u8], front: FrontRead) -> Sink {
-    let roomy = k.roomy(out);
+pub fn with_first(rt: &HostRuntime, k: Sink, out: &mut [u8], front: FrontRead) -> Sink {
+    let roomy = k.roomy(rt, out);
     let used = roomy.used;
     let wrote = write_first(&mut out[used..], front);
     roomy.with(wrote, out)

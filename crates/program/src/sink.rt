@@ -2,7 +2,7 @@
 ghost use Rattle.std.specs.Prelude.{◌≡◌, length};
 ghost use Rattle.program.specs.Sink.{empty, stopped_sink, longer_by, with_line, Roomy};
 
-use libc::STDOUT_FILENO;
+use crate::system::fail;
 use listing::close;
 use state::listed::ListedLine;
 use writing::lay::Wrote;
@@ -16,12 +16,14 @@ pub struct Sink {
 }
 
 // Whether all of it was written to standard output; where not, that was said on standard error.
-pub fn write(bytes: &[u8]) -> bool {
-    if io::write_all(STDOUT_FILENO, bytes) {
-        return true;
+pub fn write(rt: &HostRuntime, bytes: &[u8]) -> bool {
+    match rt.write_all(bytes) {
+        Ok(()) => true,
+        Err(cause) => {
+            fail(rt, b"standard output", cause);
+            false
+        }
     }
-    os::fail(b"standard output");
-    false
 }
 
 impl Sink {
@@ -44,7 +46,7 @@ impl Sink {
     }
 
     // Everything that is gathered is written.
-    pub fn flushed(self, out: &[u8]) -> Sink
+    pub fn flushed(self, rt: &HostRuntime, out: &[u8]) -> Sink
         ensures { result.used ≡ 0 }
     {
         if self.failed {
@@ -54,14 +56,14 @@ impl Sink {
         if out.len() < used {
             return Sink::stopped();
         }
-        if write(&out[0..used]) {
+        if write(rt, &out[0..used]) {
             return Sink::new();
         }
         Sink::stopped()
     }
 
     // There is room for a longest line behind what is gathered.
-    pub fn roomy(self, out: &[u8]) -> Sink
+    pub fn roomy(self, rt: &HostRuntime, out: &[u8]) -> Sink
         ensures { Roomy (length out.now) result }
     {
         if out.len() < self.used {
@@ -70,7 +72,7 @@ impl Sink {
         if ListedLine::DIGITS < out.len() - self.used {
             return self;
         }
-        self.flushed(out)
+        self.flushed(rt, out)
     }
 
     // n bytes more are gathered.
@@ -101,8 +103,8 @@ impl Sink {
 }
 
 // An 05 line more.
-pub fn with_refused(k: Sink, out: &mut [u8], number: u32, refusal: u32) -> Sink {
-    let roomy = k.roomy(out);
+pub fn with_refused(rt: &HostRuntime, k: Sink, out: &mut [u8], number: u32, refusal: u32) -> Sink {
+    let roomy = k.roomy(rt, out);
     let used = roomy.used;
     let wrote = close::write_refused(&mut out[used..], number, refusal);
     roomy.with(wrote, out)

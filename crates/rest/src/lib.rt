@@ -4,7 +4,9 @@
 use decoder::{Added, turn};
 use opening::files::{FrontRead, OpenFiles};
 use program::sink::{Sink, with_refused};
+use program::system::fail;
 use state::State;
+use std::fs::File;
 use stream::source::{Source, pass_lines, take};
 use unit::Unit;
 
@@ -12,7 +14,7 @@ use unit::Unit;
 #[derive(Drop)]
 pub struct UnderWay {
     pub state: State,
-    pub source: Source,
+    pub source: Source<File>,
     pub sink: Sink,
     // Nothing follows: the last line is made, or a read or a write failed.
     pub over: bool,
@@ -26,7 +28,7 @@ struct LineAdded {
     over: bool,
 }
 
-fn stopped(state: State, source: Source, sink: Sink) -> UnderWay {
+fn stopped(state: State, source: Source<File>, sink: Sink) -> UnderWay {
     UnderWay {
         state,
         source,
@@ -37,6 +39,7 @@ fn stopped(state: State, source: Source, sink: Sink) -> UnderWay {
 
 // One line of the unit file, or its end, an empty slice.
 fn list_line(
+    rt: &HostRuntime,
     unit: Unit,
     reference: &[u8],
     symbols: &[u32],
@@ -46,7 +49,7 @@ fn list_line(
     k: Sink,
     out: &mut [u8],
 ) -> LineAdded {
-    let sink = k.roomy(out);
+    let sink = k.roomy(rt, out);
     let used = sink.used;
     let turned = turn(
         unit,
@@ -80,6 +83,7 @@ fn list_line(
 
 // The next line of the unit file.
 fn step(
+    rt: &HostRuntime,
     unit: Unit,
     reference: &[u8],
     symbols: &[u32],
@@ -92,12 +96,13 @@ fn step(
     let sink = run.sink;
     let line = take(run.source, buf);
     let source = line.source;
-    if source.failed {
+    if source.failed.is_some() {
         return stopped(state, source, sink);
     }
     let from = line.from;
     let to = line.to;
     let listed = list_line(
+        rt,
         unit,
         reference,
         symbols,
@@ -127,6 +132,7 @@ fn turns(records: u32, number: u32) -> usize {
 
 // The lines from a state on, where the unit file stands at its record.
 fn records(
+    rt: &HostRuntime,
     unit: Unit,
     reference: &[u8],
     symbols: &[u32],
@@ -135,8 +141,8 @@ fn records(
     buf: &mut [u8],
     out: &mut [u8],
 ) -> UnderWay {
-    let mut run = start;
     let mut left = turns(unit.records, start.state.number);
+    let mut run = start;
     while left > 0 {
         if run.over {
             return run;
@@ -144,7 +150,7 @@ fn records(
         if run.sink.failed {
             return run;
         }
-        run = step(unit, reference, symbols, counts, run, buf, out);
+        run = step(rt, unit, reference, symbols, counts, run, buf, out);
         left -= 1;
     }
     run
@@ -152,6 +158,7 @@ fn records(
 
 // The record lines before the state's are passed over; where they run out, the next one is missing.
 fn records_from(
+    rt: &HostRuntime,
     unit: Unit,
     reference: &[u8],
     symbols: &[u32],
@@ -164,11 +171,11 @@ fn records_from(
     let sink = start.sink;
     let passed = pass_lines(start.source, buf, state.number as usize);
     let source = passed.source;
-    if source.failed {
+    if source.failed.is_some() {
         return stopped(state, source, sink);
     }
     if passed.left > 0 {
-        let refused = with_refused(sink, out, state.number, refusal::MISSING);
+        let refused = with_refused(rt, sink, out, state.number, refusal::MISSING);
         return stopped(state, source, refused);
     }
     let run = UnderWay {
@@ -177,7 +184,7 @@ fn records_from(
         sink,
         over: false,
     };
-    records(unit, reference, symbols, counts, run, buf, out)
+    records(rt, unit, reference, symbols, counts, run, buf, out)
 }
 
 // The bases that the reference has, of all that are lent.
@@ -190,6 +197,7 @@ fn bases_of(reference: &[u8], bases: usize) -> &[u8] {
 
 // The lines behind the first, from a state on.
 pub fn rest(
+    rt: &HostRuntime,
     opened: OpenFiles,
     reference: &[u8],
     symbols: &[u32],
@@ -210,10 +218,10 @@ pub fn rest(
                 sink,
                 over: false,
             };
-            records_from(unit, bases, symbols, &counts, start, buf, out)
+            records_from(rt, unit, bases, symbols, &counts, start, buf, out)
         }
         FrontRead::Unpaired(_, n) => {
-            let refused = with_refused(sink, out, 0, n);
+            let refused = with_refused(rt, sink, out, 0, n);
             stopped(state, source, refused)
         }
         FrontRead::Alone(_) => stopped(state, source, sink),
@@ -222,11 +230,11 @@ pub fn rest(
 }
 
 // Writes what is gathered. Where the unit file cannot be read on, that is said instead, and the listing stops as at a power failure.
-pub fn finish(run: UnderWay, unit_path: &[u8], out: &[u8]) {
+pub fn finish(rt: &HostRuntime, run: UnderWay, unit_path: &[u8], out: &[u8]) {
     let source = run.source;
-    if source.failed {
-        os::fail(unit_path);
+    if let Some(cause) = source.failed {
+        fail(rt, unit_path, cause);
         return;
     }
-    run.sink.flushed(out);
+    run.sink.flushed(rt, out);
 }

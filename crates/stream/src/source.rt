@@ -5,33 +5,38 @@ ghost use Rattle.stream.specs.Source.{last_place, unread, unreadable as unreadab
 ghost use Rattle.stream.specs.Code.Filling.{WithinAsked, Filled, Refilled};
 
 use frame::line::{Line, Next, next_line};
-use libc::SEEK_SET;
 use resuming::pass::pass;
+use std::io::{Error, ErrorKind, Read, Seek, SeekFrom};
+
+// The last byte of a file that can be gone to.
+const PLACES: usize = 9_223_372_036_854_775_807;
 
 // The bytes of the buffer from `at` to `end` are read and not handed on yet.
 #[derive(Drop)]
-pub struct Source {
-    pub fd: i32,
+pub struct Source<R> {
+    // None where it could not be opened.
+    pub file: Option<R>,
     pub at: usize,
     pub end: usize,
     // There is nothing behind `end`: the file ends there, or cannot be read on.
     pub ended: bool,
-    pub failed: bool,
+    // Why it cannot be read on.
+    pub failed: Option<Error>,
 }
 
 // A part of the buffer, and the file behind it.
 #[derive(Drop)]
-pub struct LineAt {
+pub struct LineAt<R> {
     pub from: usize,
     pub to: usize,
-    pub source: Source,
+    pub source: Source<R>,
 }
 
 // How many 0A are still wanted, and the file behind those that went by.
 #[derive(Drop)]
-pub struct LinesPassed {
+pub struct LinesPassed<R> {
     pub left: usize,
-    pub source: Source,
+    pub source: Source<R>,
 }
 
 // What one read brought.
@@ -39,115 +44,114 @@ pub struct LinesPassed {
 enum Got {
     Bytes(usize),
     End,
-    Failed,
+    Failed(Error),
 }
 
-impl Source {
-    // The last byte of a file that can be gone to.
-    const PLACES: usize = 9_223_372_036_854_775_807;
-
+impl<R> Source<R> {
     // The number is its name in specs/: proved, and called by nothing.
     fn tied() -> usize
         ensures { result ≡ last_place }
     {
-        Source::PLACES
+        PLACES
     }
 
     // A file from where it stands.
-    pub fn new(fd: i32) -> Source
-        ensures { result ≡ unread fd }
+    pub fn new(file: R) -> Source<R>
+        ensures { result ≡ unread file }
     {
         Source {
-            fd,
+            file: Some(file),
             at: 0,
             end: 0,
             ended: false,
-            failed: false,
+            failed: None,
         }
     }
 
     // A file that cannot be read.
-    pub fn unreadable(fd: i32) -> Source
-        ensures { result ≡ unreadableSource fd }
+    pub fn unreadable(file: Option<R>, cause: Error) -> Source<R>
+        ensures { result ≡ unreadableSource file cause }
     {
         Source {
-            fd,
+            file,
             at: 0,
             end: 0,
             ended: true,
-            failed: true,
+            failed: Some(cause),
         }
     }
+}
 
+impl<R: Seek> Source<R> {
     // A file from a byte on.
-    pub fn from(fd: i32, place: usize) -> Source
+    pub fn from(file: R, place: usize) -> Source<R>
         ensures { Held 0 result }
     {
-        if Source::PLACES < place {
-            return Source::unreadable(fd);
+        if PLACES < place {
+            return Source::unreadable(Some(file), Error::from(ErrorKind::InvalidInput));
         }
-        if libc::lseek(fd, place as i64, SEEK_SET) < 0 {
-            return Source::unreadable(fd);
+        let mut file = file;
+        match file.seek(SeekFrom::Start(place as u64)) {
+            Ok(_) => Source::new(file),
+            Err(cause) => Source::unreadable(Some(file), cause),
         }
-        Source::new(fd)
     }
 }
 
 // At least a byte, where the answer is bytes.
-fn read_some(fd: i32, part: &mut [u8]) -> Got
+fn read_some<R: Read>(file: &mut Option<R>, part: &mut [u8]) -> Got
     ensures { WithinAsked (length part.new) result }
 {
-    let got = libc::read(fd, part);
-    if got < 0 {
-        return Got::Failed;
+    let Some(opened) = file else {
+        return Got::Failed(Error::from(ErrorKind::NotFound));
+    };
+    match opened.read(part) {
+        Ok(0) => Got::End,
+        Ok(n) => Got::Bytes(n),
+        Err(cause) => Got::Failed(cause),
     }
-    let n = io::count(got, part);
-    if n == 0 {
-        return Got::End;
-    }
-    Got::Bytes(n)
 }
 
 // Reads until the buffer is full or the file ends: a pipe hands over less than it is asked for.
-fn fill(s: Source, buf: &mut [u8]) -> Source
+fn fill<R: Read>(s: Source<R>, buf: &mut [u8]) -> Source<R>
     requires { Held (length buf.old) s }
     ensures { Filled buf.old s buf.new result }
 {
-    let fd = s.fd;
+    let mut file = s.file;
     let at = s.at;
     let mut end = s.end;
     while end < buf.len() {
-        let got = read_some(fd, &mut buf[end..]);
+        let got = read_some(&mut file, &mut buf[end..]);
         match got {
             Got::Bytes(n) => {
                 end += n;
             }
             Got::End => {
                 return Source {
-                    fd,
+                    file,
                     at,
                     end,
                     ended: true,
-                    failed: false,
+                    failed: None,
                 };
             }
-            Got::Failed => {
+            Got::Failed(cause) => {
                 return Source {
-                    fd,
+                    file,
                     at,
                     end,
                     ended: true,
-                    failed: true,
+                    failed: Some(cause),
                 };
             }
         }
     }
     Source {
-        fd,
+        file,
         at,
         end,
         ended: false,
-        failed: false,
+        failed: None,
     }
 }
 
@@ -164,7 +168,7 @@ fn shift(buf: &mut [u8], from: usize, n: usize)
 }
 
 // What is not handed on yet moves to the front of the buffer, and more is read behind it.
-fn refill(s: Source, buf: &mut [u8]) -> Source
+fn refill<R: Read>(s: Source<R>, buf: &mut [u8]) -> Source<R>
     requires { Held (length buf.old) s }
     ensures { Refilled buf.old s buf.new result }
 {
@@ -172,24 +176,24 @@ fn refill(s: Source, buf: &mut [u8]) -> Source
     let n = s.end - at;
     shift(buf, at, n);
     let moved = Source {
-        fd: s.fd,
+        file: s.file,
         at: 0,
         end: n,
         ended: false,
-        failed: false,
+        failed: None,
     };
     fill(moved, buf)
 }
 
 // Sees to it that so many bytes stand in the buffer, or all that the file has left, or all that there is room for.
-pub fn ready(s: Source, buf: &mut [u8], wanted: usize) -> Source
+pub fn ready<R: Read>(s: Source<R>, buf: &mut [u8], wanted: usize) -> Source<R>
     ensures { WaitsFor wanted buf.old s buf.new result }
 {
     if s.end < s.at {
-        return Source::unreadable(s.fd);
+        return Source::unreadable(s.file, Error::from(ErrorKind::InvalidInput));
     }
     if buf.len() < s.end {
-        return Source::unreadable(s.fd);
+        return Source::unreadable(s.file, Error::from(ErrorKind::InvalidInput));
     }
     if s.ended {
         return s;
@@ -213,7 +217,7 @@ fn line_bytes(left: &[u8]) -> usize
 }
 
 // The next line, where the buffer has room for a longest one; empty at the file's end.
-pub fn take(s: Source, buf: &mut [u8]) -> LineAt
+pub fn take<R: Read>(s: Source<R>, buf: &mut [u8]) -> LineAt<R>
     ensures { HandedLine buf.old s buf.new result }
 {
     let r = ready(s, buf, Line::DIGITS + 1);
@@ -221,7 +225,7 @@ pub fn take(s: Source, buf: &mut [u8]) -> LineAt
     let end = r.end;
     let to = from + line_bytes(&buf[from..end]);
     let source = Source {
-        fd: r.fd,
+        file: r.file,
         at: to,
         end,
         ended: r.ended,
@@ -231,14 +235,14 @@ pub fn take(s: Source, buf: &mut [u8]) -> LineAt
 }
 
 // All that stands in the buffer, which is filled where nothing does; empty at the file's end.
-pub fn piece(s: Source, buf: &mut [u8]) -> LineAt
+pub fn piece<R: Read>(s: Source<R>, buf: &mut [u8]) -> LineAt<R>
     ensures { HandedAll buf.old s buf.new result }
 {
     let r = ready(s, buf, 1);
     let from = r.at;
     let end = r.end;
     let source = Source {
-        fd: r.fd,
+        file: r.file,
         at: end,
         end,
         ended: r.ended,
@@ -252,13 +256,13 @@ pub fn piece(s: Source, buf: &mut [u8]) -> LineAt
 }
 
 // Passes over what stands in the buffer, until 0A went by so many times.
-fn pass_piece(s: Source, buf: &mut [u8], want: usize) -> LinesPassed {
+fn pass_piece<R: Read>(s: Source<R>, buf: &mut [u8], want: usize) -> LinesPassed<R> {
     let r = ready(s, buf, 1);
     let from = r.at;
     let end = r.end;
     let p = pass(&buf[from..end], want);
     let source = Source {
-        fd: r.fd,
+        file: r.file,
         at: from + p.at,
         end,
         ended: r.ended,
@@ -271,7 +275,7 @@ fn pass_piece(s: Source, buf: &mut [u8], want: usize) -> LinesPassed {
 }
 
 // Passes over so many lines by their 0A. Nothing says that a file ends, so the loop counts its turns down, from a number that no run uses up.
-pub fn pass_lines(s: Source, buf: &mut [u8], want: usize) -> LinesPassed {
+pub fn pass_lines<R: Read>(s: Source<R>, buf: &mut [u8], want: usize) -> LinesPassed<R> {
     let mut p = LinesPassed {
         left: want,
         source: s,

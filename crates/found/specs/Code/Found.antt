@@ -8,4 +8,4 @@ use Rattle.found.specs.declared.Edge.TheVariants.{Bytes, Unread}
 -- it has no more bytes than there is room for
 abbrev pub EdgeWithin : ℕ → Edge → Type 0
 EdgeWithin n (Bytes k) = k ≤ n
-EdgeWithin n Unread = Unit
+EdgeWithin n (Unread e) = Unit

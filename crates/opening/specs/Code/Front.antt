@@ -15,4 +15,4 @@ abbrev pub Grows : ℕ → BaseLine → Type 0
 Grows bases (More n) = Grown bases n
 Grows bases Done = Unit
 Grows bases (Refused n) = Unit
-Grows bases Unread = Unit
+Grows bases (Unread e) = Unit

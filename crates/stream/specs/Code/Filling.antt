@@ -15,10 +15,10 @@ pub record Some (n k : ℕ) : Type 0 where
 abbrev pub WithinAsked : ℕ → Got → Type 0
 WithinAsked n (Bytes k) = Some n k
 WithinAsked n End = Unit
-WithinAsked n Failed = Unit
+WithinAsked n (Failed e) = Unit
 
 -- bytes are read behind those that wait, up to the file's end or the buffer's
-pub record Filled (before : List ℕ) (s : Source) (after : List ℕ) (r : Source) : Type 0 where
+pub record Filled {R : Type 0} (before : List ℕ) (s : Source R) (after : List ℕ) (r : Source R) : Type 0 where
   pub held : Held (length after) r
   pub start : r.at ≡ s.at
   pub more : s.end ≤ r.end
@@ -26,7 +26,7 @@ pub record Filled (before : List ℕ) (s : Source) (after : List ℕ) (r : Sourc
   pub full : r.ended ≡ false → r.end ≡ length after
 
 -- the same, with the bytes that wait at the front of the buffer
-pub record Refilled (before : List ℕ) (s : Source) (after : List ℕ) (r : Source) : Type 0 where
+pub record Refilled {R : Type 0} (before : List ℕ) (s : Source R) (after : List ℕ) (r : Source R) : Type 0 where
   pub held : Held (length after) r
   pub start : r.at ≡ 0
   pub leads : Leads before s after r.at r.end

@@ -1,0 +1,5 @@
+-- `found::scan` is safe and ends. The measure is the number of turns that are left. Assumes nothing.
+use Rattle.found.proofs.scan.Given as goal
+
+abbrev pub decreases-loop-turns : goal.decreases-loop-turns
+decreases-loop-turns l = l.turns

@@ -1,0 +1,12 @@
+-- `stream::source::take` meets its contract. Assumes nothing.
+use Rattle.std.proofs.Common.{arith, refl}
+use Rattle.stream.proofs.SourceLaws.{line_fits, handed_line}
+use Rattle.stream.proofs.source.take.Goals as goal
+
+pub overflow_add-to : goal.overflow_add-to
+overflow_add-to g c =
+    let h = line_fits _ _ _ _ c.ready-r.ensures.held.order c.ready-r.ensures.held.inside c.line_bytes.ensures in
+    omega (arith, c.ready-r.ensures.held.inside)
+
+pub returns : goal.returns
+returns g c = handed_line _ c.ready-r.ensures c.line_bytes.ensures refl refl refl refl refl
