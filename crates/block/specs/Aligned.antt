@@ -1,16 +1,16 @@
 -- An aligned block (document 01, Lines: blocks): its fields left to right, each refused when it is complete.
 --
 -- field, in order                                      read by                               refused by (2 wherever the frame ends within it)
--- read length u16                                      Head.headAt, Checked.lengthAt         8
--- rcomp                                                Head.fromRcomp, Checked.rcompAt       11
--- I, HM: number of pieces                              Head.fromPieces, Checked.numberAt     8
--- I, HM: their lengths u16 each                        Head.fromPieces, Checked.lengthsAt    8, each for 0, and once all are read
--- I, HM: no field, but Table 62's symbols              Head.spliceSteps, Table62             5, 6, 7, piece by piece
--- I, HM: left soft, left hard, right soft, right hard  fromClips, Clips.clipsAt              9, once all four are read
--- I, HM: soft-clipped bases, left then right           fromSoft, Symbols.symbolRun           10
--- all but P: edit count u16                            fromEdits, Checked.countAt            11
--- the edits                                            editsTallied, Check.editsRefusal      11, 10, 12, edit by edit
--- no field, but all edits together                     editsTallied, Flanks.flankRefusal     12, of a deletion with no match or substitution before it, or none behind it
+-- read length u16                                      Head.head_at, Checked.length_at       8
+-- rcomp                                                Head.from_rcomp, Checked.rcomp_at     11
+-- I, HM: number of pieces                              Head.from_pieces, Checked.number_at   8
+-- I, HM: their lengths u16 each                        Head.from_pieces, Checked.lengths_at  8, each for 0, and once all are read
+-- I, HM: no field, but Table 62's symbols              Head.splice_steps, Table62            5, 6, 7, piece by piece
+-- I, HM: left soft, left hard, right soft, right hard  from_clips, Clips.clips_at            9, once all four are read
+-- I, HM: soft-clipped bases, left then right           from_soft, Symbols.symbol_run         10
+-- all but P: edit count u16                            from_edits, Checked.count_at          11
+-- the edits                                            edits_tallied, Check.edits_refusal    11, 10, 12, edit by edit
+-- no field, but all edits together                     edits_tallied, Flanks.flank_refusal   12, of a deletion with no match or substitution before it, or none behind it
 -- then, in Segment.placed: 13 (Place), 10 of the reference (bases)
 -- Assumes nothing.
 use Rattle.std.specs.Prelude.{ℕ, ◌+◌, ◌*◌, cond, List, ltb, eqb}

@@ -184,7 +184,7 @@ closed_most w o =
     (λ i. let k = eqb-true w.kind deletion i in rw (closed_deletion w g k) (counted_most w.run minus_sign (⊎_elim (λ z. absurd (omega arith)) (λ z. z) o)))
     (λ i. rw (closed_none w g (eqb-false _ _ i)) (omega arith)))
 
--- an edit adds to the text what the walk moves by, and leaves its own run to be openRun later
+-- an edit adds to the text what the walk moves by, and leaves its own run to be `open_run` later
 pub edit_most : (w : Walk) (e : Edit) → Open w → w.next ≤ e.offset
     → length (print_all (gap w e)) + cond (eqb e.kind substitution) 1 0 + 2 * (past w e).run + 2 * w.next ≤ 2 * w.run + 2 * next_offset e + 2
 unfolding past

@@ -77,7 +77,7 @@ glyph_nib d t =
     simp (q, r, v, le-ltb (d - 87) 10 (omega arith)) (omega arith))
     (digit_range d t)
 
--- ---- hexOf
+-- ---- hex_of
 
 pub length_hex_of : (bs : List ℕ) → length (hex_of bs) ≡ 2 * length bs
 unfolding hex_of

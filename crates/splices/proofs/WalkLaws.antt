@@ -145,8 +145,8 @@ module _ (class alphabet : ℕ) (frame symbols : List ℕ) (mapped : ℕ) where
       let s : start + (until - start) ≡ until = omega arith in
       ap
       (λ (u : ℕ).
-        let p : Piece = record { at = position_in m; start = start; until = u; edits = edits_before u es } in
-        p ∷ pieces_from mapped u (edits_behind u es) (k ∷ ns) (positions_from symbols (following symbols m n) (k ∷ ns)))
+      let p : Piece = record { at = position_in m; start = start; until = u; edits = edits_before u es } in
+      p ∷ pieces_from mapped u (edits_behind u es) (k ∷ ns) (positions_from symbols (following symbols m n) (k ∷ ns)))
       s
 
   module _ (w : PieceWalk) (c : CutPiece class frame mapped w) (h : 2 ≤ w.left) where

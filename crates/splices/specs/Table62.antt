@@ -1,5 +1,5 @@
 -- Table 62 of the standard: decoding process of the pair descriptor subsequences for spliced reads, for one segment i of a record of class I or HM.
--- One definition a decoding case, under the page's names (`same_rec_short` is the page's same_rec_short). How to read a case: taking's Steps.
+-- One definition a decoding case, under the page's names (`spliced_seg_mapping_pos` is the page's splicedSegMappingPos). How to read a case: taking's Steps.
 -- Its outer loop, for(i = 0; i < numberOfAlignedRecordSegments; i++), is the aligned blocks of the record: each takes its symbols behind its last length.
 -- The loop before it, which sets splicedSegMappingPos[i][0], runs to numberOfMappedRecordSegments: by 10.4.10 the same number, but in class U with a
 -- computed reference, which document 01 leaves out.

@@ -78,7 +78,7 @@ module _ (alphabet len : ℕ) where
   pub end_plain : (w : Walk) → w.kind ≡ substitution → print_all (operations_from alphabet len w []) ≡ print_all (matches (len - w.next))
   end_plain w h = text_end alphabet len w ∙ rw (ending_both len w, closed_plain w h)
 
-  -- an edit that joins no run: the run is openRun first
+  -- an edit that joins no run: the run is `open_run` first
   shut_on : (w : Walk) (e : Edit) (rest : List Edit) → joins_run w e ≡ false
       → print_all (operations_from alphabet len w (e ∷ rest)) ≡ print_all (open_run w) ++ print_all (operations_from alphabet len (plain w.next) (e ∷ rest))
   unfolding past

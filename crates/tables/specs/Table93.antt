@@ -1,5 +1,5 @@
 -- Table 93: decoding process for the mismatches within one e-cigar string.
--- The variables have the table's names. A while loop is a function that calls itself; `left` only makes it end, and mmNumber turns are always enough.
+-- The variables have the table's names, in this language's spelling where a definition or a field has them (`previous_offset` is previousOffset). A while loop is a function that calls itself; `left` only makes it end, and mmNumber turns are always enough.
 -- The page has lost the brace that closes Class_I: the last "delta = len - previousOffset" is that case's own, as N and M have theirs; "tostr" there is inttostr.
 -- Where offsets are in order, as in every list that is accepted, no difference here is below 0.
 -- Assumes nothing.

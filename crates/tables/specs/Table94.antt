@@ -1,5 +1,5 @@
 -- Table 94: decoding process for the e-cigar strings of a genomic record with spliced reads, for one segment s.
--- The variables have the table's names, without their index [s]; its outer loop is Table 92's. A for loop is a function that calls itself once for each turn left.
+-- The variables have the table's names, without their index [s], in this language's spelling where a definition or a field has them (`spliced_seg_length` is splicedSegLength); its outer loop is Table 92's. A for loop is a function that calls itself once for each turn left.
 -- Of the page: reverseComp's indexes are spliced segment, segment, 0 here, and spliced segment, mapping, segment in Table 45; the first mapping's is meant.
 -- The sign of an undirected splice stands there as "***", in Table 90 as *, which it is. A brace is lost behind two tests of reverseComp, and a bracket in each
 -- clip: the clips are Table 92's. Where a spliced segment has no mismatches mmEndIdx is mmStartIdx - 1: [mmStartIdx, mmEndIdx] is then empty.
