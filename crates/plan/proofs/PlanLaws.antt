@@ -54,7 +54,7 @@ use Rattle.plan.specs.declared.read.Plan.{Plan}
 use Rattle.plan.specs.declared.read.Planned.TheVariants.{Whole, Refused}
 use Rattle.plan.specs.declared.read.Reading.{Reading}
 use Rattle.plan.proofs.QuietLaws.{pos_quiet}
-use Rattle.plan.proofs.Steps.{first_plain, first_placed, second_placed, second_plain, one_segment, two_segments, pos_short, pos_out, pos_in, kind_short, kind_other, kind_right, left_over, none_left}
+use Rattle.plan.proofs.Steps.{first_plain, first_placed, second_placed, second_plain, one_segment, two_segments, pos_short, pos_out, pos_in, kind_short, kind_other, kind_right, left_over, none_left_over}
 
 -- ---- the steps of an accepted record
 
@@ -86,7 +86,7 @@ module _ (u : Unit) (reference symbols counts frame : List ℕ) (p : Plan) (move
   finished_is st q at e =
       by_test (ltb at (length frame))
       (λ t. absurd (refuses_never st misframed _ (left_over frame q at (ltb-true _ _ t)) e))
-      (λ t. let w : came q st ≡ came p moved = as_steps st (sets q) _ (none_left frame q at (ltb-false _ _ t)) e in (cc, cc))
+      (λ t. let w : came q st ≡ came p moved = as_steps st (sets q) _ (none_left_over frame q at (ltb-false _ _ t)) e in (cc, cc))
 
   -- what is so of the record's link, position and blocks
   record BlocksOf (link : Link) (pos at : ℕ) (st : State) : Type 0 where

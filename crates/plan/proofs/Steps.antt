@@ -95,9 +95,9 @@ module _ (frame : List ℕ) (p : Plan) (at : ℕ) where
   unfolding nothing_left_over
   left_over h = rw (lt-ltb _ _ h) refl
 
-  pub none_left : length frame ≤ at → sets p ≡ nothing_left_over frame p at
+  pub none_left_over : length frame ≤ at → sets p ≡ nothing_left_over frame p at
   unfolding nothing_left_over
-  none_left h = rw (le-ltb _ _ h) refl
+  none_left_over h = rw (le-ltb _ _ h) refl
 
 -- ---- what reading them hands back
 

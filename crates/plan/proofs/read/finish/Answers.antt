@@ -1,6 +1,6 @@
 -- `plan::read::finish` meets its contract: bytes are left over or not. Assumes nothing.
 use mathlib.Core.Path.{refl}
-use Rattle.plan.proofs.Steps.{left_over, none_left, same_steps, refused_steps}
+use Rattle.plan.proofs.Steps.{left_over, none_left_over, same_steps, refused_steps}
 use Rattle.taking.specs.Steps.{decode}
 use Rattle.plan.proofs.read.finish.Goals as goal
 
@@ -9,4 +9,4 @@ returns-then-at-frame c symbols counts = refused_steps _ _ symbols counts _ _ _ 
 
 pub returns : goal.returns
 unfolding decode
-returns c symbols counts = same_steps _ _ symbols counts _ _ _ (none_left _ _ _ c.if-at-frame.false) refl
+returns c symbols counts = same_steps _ _ symbols counts _ _ _ (none_left_over _ _ _ c.if-at-frame.false) refl
