@@ -39,9 +39,9 @@ abbrev pub aligned_number : AlignedRead → ℕ
 aligned_number (Whole a) = fine
 aligned_number (Refused n) = n
 
-abbrev pub block_of : (length rcomp : ℕ) → Clips → (softAt edits edit_list_at : ℕ) → Block
-block_of length rcomp clips softAt edits edit_list_at =
-    record { length = length; rcomp = rcomp; clips = clips; soft_at = softAt; edits = edits; edits_at = edit_list_at }
+abbrev pub block_of : (length rcomp : ℕ) → Clips → (softAt edits editsAt : ℕ) → Block
+block_of length rcomp clips softAt edits editsAt =
+    record { length = length; rcomp = rcomp; clips = clips; soft_at = softAt; edits = edits; edits_at = editsAt }
 
 -- the place behind a block: its edits stand last
 abbrev pub block_end : (class : ℕ) → Block → ℕ

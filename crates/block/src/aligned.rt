@@ -22,7 +22,7 @@ pub struct AlignedBlock {
     pub next: Cursor,
 }
 
-#[derive(Drop)]
+#[derive(Clone, Copy)]
 pub enum AlignedRead {
     Whole(AlignedBlock),
     Refused(u32),

@@ -12,7 +12,7 @@ use unit::Unit;
 const PIECES: u32 = Limit::PIECES as u32;
 
 // A field's value and the place behind it, or the refusal's number.
-#[derive(Drop)]
+#[derive(Clone, Copy)]
 pub enum CheckedField {
     Value(u32, Cursor),
     Refused(u32),

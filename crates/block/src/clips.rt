@@ -8,7 +8,7 @@ use splices::Splices;
 use splices::walk::length_at;
 
 // The place behind the clips, and the clips; or the refusal's number. (The wider field first: the compiler then keeps them out of memory, docs/BENCHMARK.md.)
-#[derive(Drop)]
+#[derive(Clone, Copy)]
 pub enum Clipped {
     Whole(Cursor, Clips),
     Refused(u32),

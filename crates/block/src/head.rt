@@ -13,7 +13,7 @@ use state::State;
 use unit::Unit;
 
 // Read length, rcomp and the pieces, and the place behind them.
-#[derive(Drop)]
+#[derive(Clone, Copy)]
 pub struct BlockHead {
     pub length: u32,
     pub rcomp: u32,
@@ -21,14 +21,14 @@ pub struct BlockHead {
     pub next: Cursor,
 }
 
-#[derive(Drop)]
+#[derive(Clone, Copy)]
 pub enum HeadRead {
     Whole(BlockHead),
     Refused(u32),
 }
 
 // What reading a head hands back: the answer, and the state behind the symbols that it takes; where it is refused, as it was given.
-#[derive(Drop)]
+#[derive(Clone, Copy)]
 pub struct HeadMoved {
     pub answer: HeadRead,
     pub state: State,

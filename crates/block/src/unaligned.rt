@@ -14,7 +14,7 @@ pub struct UnalignedBlock {
     pub next: Cursor,
 }
 
-#[derive(Drop)]
+#[derive(Clone, Copy)]
 pub enum UnalignedRead {
     Whole(UnalignedBlock),
     Refused(u32),

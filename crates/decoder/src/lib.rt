@@ -16,7 +16,7 @@ use unit::Unit;
 use writing::lay::Wrote;
 
 // How many bytes were added, and whether the listing goes on behind them; or that less is lent than the longest line needs.
-#[derive(Drop)]
+#[derive(Clone, Copy)]
 pub enum Added {
     Go(usize),
     Stop(usize),
@@ -24,7 +24,7 @@ pub enum Added {
 }
 
 // The answer, and the state to go on from; where the listing stops, as it was given.
-#[derive(Drop)]
+#[derive(Clone, Copy)]
 pub struct Turned {
     pub added: Added,
     pub state: State,

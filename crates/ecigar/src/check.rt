@@ -16,7 +16,7 @@ use edits::{Block, Run};
 use writing::decimal::decimal_len;
 
 // What the check keeps from edit to edit: the walk, the reference positions taken, and the length of the text so far.
-#[derive(Drop)]
+#[derive(Clone, Copy)]
 pub struct Tally {
     pub walk: Walk,
     pub taken: u32,
@@ -24,7 +24,7 @@ pub struct Tally {
 }
 
 // What a segment's edits come to: the reference positions taken and the length of the text without clips, or a refusal.
-#[derive(Drop)]
+#[derive(Clone, Copy)]
 pub enum EditsChecked {
     Fine { taken: u32, text: u32 },
     Refused(u32),

@@ -8,7 +8,7 @@ ghost use Rattle.frame.specs.Code.Window.{window_of};
 use limits::Limit;
 
 // What a slice is as a line.
-#[derive(Drop)]
+#[derive(Clone, Copy)]
 pub enum Line {
     // A frame of so many bytes.
     Frame(usize),
@@ -37,7 +37,7 @@ impl Line {
 }
 
 // What stands at the front of a slice.
-#[derive(Drop)]
+#[derive(Clone, Copy)]
 pub enum Next {
     // A line of so many bytes, its 0A among them.
     Whole(usize),

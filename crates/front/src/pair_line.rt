@@ -11,7 +11,7 @@ use unit::Pairs;
 use unit::kind::Kind;
 
 // What a pair line says.
-#[derive(Drop)]
+#[derive(Clone, Copy)]
 pub enum PairLine {
     // So many symbols.
     Count(u32),

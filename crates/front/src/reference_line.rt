@@ -10,7 +10,7 @@ use unit::Unit;
 use unit::kind::Kind;
 
 // What a reference line says.
-#[derive(Drop)]
+#[derive(Clone, Copy)]
 pub enum ReferenceLine {
     // So many bases are there now, those of earlier lines among them.
     Bases(usize),

@@ -11,7 +11,7 @@ use unit::kind::Kind;
 use writing::lay::{Wrote, write_line};
 
 // What a unit line says.
-#[derive(Drop)]
+#[derive(Clone, Copy)]
 pub enum UnitLine {
     Read(Unit),
     Refused(u32),

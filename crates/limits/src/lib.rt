@@ -4,7 +4,7 @@
 ghost use Rattle.std.specs.Prelude.{◌≡◌, [], ◌∷◌};
 ghost use Rattle.limits.specs.Limits.{most_segments, most_read, most_edits, most_pieces, most_splice, most_ecigar, record_fields, block_fields, edit_bytes, most_frame, segment_fields, most_segment_bytes};
 
-#[derive(Drop)]
+#[derive(Clone, Copy)]
 pub struct Limit {}
 
 impl Limit {

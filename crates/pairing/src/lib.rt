@@ -59,14 +59,14 @@ impl Link {
 }
 
 // A link, or a refusal by its number.
-#[derive(Drop)]
+#[derive(Clone, Copy)]
 pub enum LinkRead {
     Linked(Link),
     Refused(u32),
 }
 
 // What decoding a record's pair symbols hands back.
-#[derive(Drop)]
+#[derive(Clone, Copy)]
 pub struct Paired {
     pub answer: LinkRead,
     pub state: State,

@@ -16,7 +16,7 @@ use splices::walk::{PieceWalk, first_piece, next_piece};
 use unit::Unit;
 
 // What one piece comes to: the position behind it and the length of its text with the splice in front of it; or its refusal's number.
-#[derive(Drop)]
+#[derive(Clone, Copy)]
 pub struct PieceFound {
     pub refusal: u32,
     pub end: u64,
@@ -24,7 +24,7 @@ pub struct PieceFound {
 }
 
 // What all pieces of a read come to: the length of its E-CIGAR without clips, or the first refusal's number.
-#[derive(Drop)]
+#[derive(Clone, Copy)]
 pub struct PiecesFound {
     pub refusal: u32,
     pub text: u32,

@@ -13,7 +13,7 @@ use unit::Unit;
 use unit::kind::Kind;
 
 // A record as it will be listed: its pair link, its position and its segments.
-#[derive(Drop)]
+#[derive(Clone, Copy)]
 pub struct Plan {
     pub link: Link,
     pub pos: u32,
@@ -21,14 +21,14 @@ pub struct Plan {
     pub second: Segment,
 }
 
-#[derive(Drop)]
+#[derive(Clone, Copy)]
 pub enum Planned {
     Whole(Plan),
     Refused(u32),
 }
 
 // What was read, and the state: behind the record's symbols, or as it was given where the line is refused.
-#[derive(Drop)]
+#[derive(Clone, Copy)]
 pub struct Reading {
     pub planned: Planned,
     pub state: State,

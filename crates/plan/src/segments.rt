@@ -14,7 +14,7 @@ use state::State;
 use unit::Unit;
 
 // What reading a segment hands back: the answer, and the state behind the symbols that its block takes; where it is refused, as it was given.
-#[derive(Drop)]
+#[derive(Clone, Copy)]
 pub struct SegmentMoved {
     pub answer: SegmentRead,
     pub state: State,

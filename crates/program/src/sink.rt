@@ -8,7 +8,7 @@ use state::listed::ListedLine;
 use writing::lay::Wrote;
 
 // The first `used` bytes of the buffer are to be written.
-#[derive(Drop)]
+#[derive(Clone, Copy)]
 pub struct Sink {
     pub used: usize,
     // A write failed: nothing more is written.

@@ -6,7 +6,7 @@ use crate::{Reader, Width};
 use frame::field::Field;
 
 // Kind and pos, each complete or short.
-#[derive(Drop)]
+#[derive(Clone, Copy)]
 pub struct Head {
     pub kind: Field,
     pub pos: Field,

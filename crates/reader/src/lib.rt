@@ -11,11 +11,11 @@ ghost use Rattle.reader.specs.Code.Reading.{width_bytes, behind, at_front, furth
 use frame::field::{Cursor, Field};
 
 // The frame, and how many of its bytes are read.
-#[derive(Drop)]
+#[derive(Clone, Copy)]
 pub struct Reader<'a>(&'a [u8], usize);
 
 // How wide a field is.
-#[derive(Drop)]
+#[derive(Clone, Copy)]
 pub enum Width {
     U8,
     U16,

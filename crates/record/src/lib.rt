@@ -21,14 +21,14 @@ mod sized;
 mod write;
 
 // How many bytes were written, the 0A among them; or the refusal's number.
-#[derive(Drop)]
+#[derive(Clone, Copy)]
 pub enum Answer {
     Listed(usize),
     Refused(u32),
 }
 
 // The answer, and the state after it: the next record's, or as it was given.
-#[derive(Drop)]
+#[derive(Clone, Copy)]
 pub struct Recorded {
     pub answer: Answer,
     pub state: State,

@@ -21,7 +21,7 @@ pub struct UnderWay {
 }
 
 // What one line of the unit file adds to a listing.
-#[derive(Drop)]
+#[derive(Clone, Copy)]
 struct LineAdded {
     state: State,
     sink: Sink,

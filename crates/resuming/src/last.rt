@@ -12,7 +12,7 @@ use state::{State, head};
 use unit::kind::Kind;
 
 // What the last kept line says.
-#[derive(Drop)]
+#[derive(Clone, Copy)]
 pub enum LastSays {
     // An 04 line: go on behind its record.
     GoOn,
@@ -23,7 +23,7 @@ pub enum LastSays {
 }
 
 // The answer, and the state to go on from; a fresh one where there is none.
-#[derive(Drop)]
+#[derive(Clone, Copy)]
 pub struct Said {
     pub says: LastSays,
     pub state: State,

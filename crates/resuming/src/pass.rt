@@ -5,7 +5,7 @@ ghost use Rattle.resuming.specs.Pass.{pass_over};
 use frame::line::Line;
 
 // How many bytes of a piece are passed over, and how many 0A are wanted behind it.
-#[derive(Drop)]
+#[derive(Clone, Copy)]
 pub struct Passed {
     pub at: usize,
     pub left: usize,

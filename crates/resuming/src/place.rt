@@ -8,7 +8,7 @@ use crate::last::{LastSays, last_line};
 use state::State;
 
 // Where to go on.
-#[derive(Drop)]
+#[derive(Clone, Copy)]
 pub enum Go {
     // Nothing is kept: the whole listing is added.
     Afresh,
@@ -23,7 +23,7 @@ pub enum Go {
 }
 
 // The answer, and the state to go on from; a fresh one where there is none.
-#[derive(Drop)]
+#[derive(Clone, Copy)]
 pub struct WhereTo {
     pub go: Go,
     pub state: State,

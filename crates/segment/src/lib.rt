@@ -58,7 +58,7 @@ impl Segment {
 }
 
 // A segment and the place behind its block, or the refusal's number.
-#[derive(Drop)]
+#[derive(Clone, Copy)]
 pub enum SegmentRead {
     Whole(Segment, Cursor),
     Refused(u32),

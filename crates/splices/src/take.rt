@@ -11,7 +11,7 @@ use taking::{NextSymbol, take};
 use unit::Unit;
 
 // 0 and the state behind the symbols; or the refusal's number, and the state as it was given.
-#[derive(Drop)]
+#[derive(Clone, Copy)]
 pub struct SymbolsMoved {
     pub refusal: u32,
     pub state: State,

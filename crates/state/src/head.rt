@@ -29,7 +29,7 @@ pub fn bytes(number: u32, next: State) -> [u8; ListedLine::HEAD]
 }
 
 // Whether an 04 line can be continued, and the state behind its record; a fresh one where it cannot.
-#[derive(Drop)]
+#[derive(Clone, Copy)]
 pub struct Back {
     pub known: bool,
     pub state: State,

@@ -5,7 +5,7 @@ ghost use Rattle.state.specs.Listed.{number_place, index_place, head_bytes, link
 use crate::State;
 use limits::Limit;
 
-#[derive(Drop)]
+#[derive(Clone, Copy)]
 pub struct ListedLine {}
 
 impl ListedLine {

@@ -8,14 +8,14 @@ use state::State;
 use unit::Pairs;
 
 // The next symbol of a subsequence, or that it has none left.
-#[derive(Drop)]
+#[derive(Clone, Copy)]
 pub enum NextSymbol {
     Symbol(u32),
     UsedUp,
 }
 
 // What taking a symbol hands back.
-#[derive(Drop)]
+#[derive(Clone, Copy)]
 pub struct Taken {
     pub found: NextSymbol,
     pub state: State,

@@ -2,7 +2,7 @@
 ghost use Rattle.std.specs.Prelude.{◌≡◌, [], ◌∷◌};
 ghost use Rattle.unit.specs.Kinds.{kind_unit, kind_pair, kind_record, kind_listed, kind_refused, kind_done, kind_reference};
 
-#[derive(Drop)]
+#[derive(Clone, Copy)]
 pub struct Kind {}
 
 impl Kind {

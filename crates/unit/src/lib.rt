@@ -115,7 +115,7 @@ impl Unit {
 }
 
 // The symbols of a unit's pair descriptor, lent as a flat table: symbol k of subsequence s stands at s * SYMBOLS + k.
-#[derive(Drop)]
+#[derive(Clone, Copy)]
 pub struct Pairs {}
 
 impl Pairs {

@@ -7,7 +7,7 @@ ghost use Rattle.writing.specs.Whole.{wrote_of, line_into};
 use frame::line::Line;
 
 // What a writer of whole lines answers: the line's bytes, its 0A among them, or too little room.
-#[derive(Drop)]
+#[derive(Clone, Copy)]
 pub enum Wrote {
     Line(usize),
     NoRoom,
