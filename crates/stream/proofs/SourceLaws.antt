@@ -6,19 +6,24 @@ use mathlib.Core.Path.{◌≡◌, refl, sym, ap, ◌∙◌}
 use mathlib.Core.Bool.{Bool, true, false, cond}
 use mathlib.Core.List.{List, [], ◌∷◌}
 use lib.Dec.{eqb, leb}
-use lib.ListN.{length, take, drop, get_or, length-take, length-drop}
-use lib.Seq.{slice, get_or-take, get_or-drop, ext_get_or, length-take-le, length-slice, take-take, take-add, drop_at}
-use borrow.Author.Tests.{eqb-false, leb-true, leb-false}
+use Rattle.std.specs.Prelude.{Option}
+use Rattle.std.specs.declared.io.Error.{Error}
+use lib.ListN.{length, take, drop, get_or, set, length-set, length-take, length-drop}
+use lib.Seq.{slice, get_or-set_same, get_or-set_other, get_or-take, get_or-drop, ext_get_or, length-take-le, length-slice, take-take, take-add, drop_at}
+use borrow.Author.Tests.{eqb-true, eqb-false, leb-true, leb-false}
+use borrow.Rule.Slice.PartMut.{mid_of, put_mid, mid_len, same_len_mid, take_put}
 use Rattle.refusal.specs.Numbers.{malformed, missing}
 use Rattle.frame.specs.Line.{line_digits, line_end, line_of, line_number}
 use Rattle.frame.specs.Next.{ended_by, next_line, next_number}
 use Rattle.frame.specs.declared.line.Next.{Next}
 use Rattle.frame.specs.declared.line.Next.TheVariants.{Whole, TooLong, NoEnd}
 use Rattle.frame.proofs.Tests.{by_test, one_of}
+use Rattle.frame.proofs.HexLaws.{false_true}
 use Rattle.frame.proofs.LineLaws.{line_unended}
 use Rattle.resuming.specs.Pass.{pass_over}
 use Rattle.resuming.proofs.PassLaws.{pass_within}
-use Rattle.stream.specs.Source.{WaitsFor, bytes_by, line_bytes, HandedLine}
+use Rattle.stream.specs.Source.{unreadable, Held, Leads, WaitsFor, bytes_by, line_bytes, HandedLine}
+use Rattle.stream.specs.Code.Filling.{Some, Filled, Refilled}
 use Rattle.resuming.specs.declared.pass.Passed.{Passed}
 use Rattle.stream.specs.declared.source.Source.{Source}
 use Rattle.stream.specs.declared.source.LineAt.{LineAt}
@@ -30,6 +35,24 @@ pub record Moved (before : List ℕ) (start : ℕ) (after : List ℕ) (i : ℕ) 
   pub long : length after ≡ length before
   pub moved : (k : ℕ) → k < i → get_or after k 0 ≡ get_or before (start + k) 0
   pub rest : (k : ℕ) → i ≤ k → get_or after k 0 ≡ get_or before k 0
+
+pub moved_none : (before : List ℕ) (start : ℕ) → Moved before start before 0
+moved_none before start = record { long = refl; moved = λ k h. absurd (omega arith); rest = λ k h. refl }
+
+pub moved_one : {before : List ℕ} {start : ℕ} {after : List ℕ} {i : ℕ} → Moved before start after i → start + i < length before
+    → Moved before start (set after i (get_or after (start + i) 0)) (i + 1)
+moved_one {before} {start} {after} {i} m h =
+    record {
+      long = simp length-set m.long;
+      moved = λ k g. by_test (eqb k i) (λ e. here k (eqb-true k i e)) (λ e. there k g (eqb-false k i e));
+      rest = λ k g. get_or-set_other after i k _ 0 (λ e. omega arith) ∙ m.rest k (omega arith);
+    }
+  where
+    here : (k : ℕ) → k ≡ i → get_or (set after i (get_or after (start + i) 0)) k 0 ≡ get_or before (start + k) 0
+    here k e = rw e (get_or-set_same after i _ 0 (omega (arith, m.long)) ∙ m.rest (start + i) (omega arith))
+
+    there : (k : ℕ) → k < i + 1 → (k ≡ i → ⊥) → get_or (set after i (get_or after (start + i) 0)) k 0 ≡ get_or before (start + k) 0
+    there k g e = get_or-set_other after i k _ 0 e ∙ m.moved k (omega arith)
 
 pub moved_all : {before : List ℕ} {start : ℕ} {after : List ℕ} {n : ℕ} → Moved before start after n → start + n ≤ length before
     → take n after ≡ slice start (start + n) before
@@ -45,12 +68,100 @@ moved_all {before} {start} {after} {n} m h =
 
 -- ---- bytes read behind others
 
+-- what stands before the part that a read was lent is as it was
+pub take_before : (e a k : ℕ) (xs ys : List ℕ) → e ≤ a → a ≤ length xs → take e (put_mid a k xs ys) ≡ take e xs
+take_before e a k xs ys h g = sym (take-take e a (put_mid a k xs ys) h) ∙ ap (take e) (take_put a k xs ys g) ∙ take-take e a xs h
+
 -- so far, from place `start` to place `end`
 pub record Filling (before : List ℕ) (start : ℕ) (after : List ℕ) (end : ℕ) : Type 0 where
   pub long : length after ≡ length before
   pub more : start ≤ end
   pub inside : end ≤ length after
   pub same : take start after ≡ take start before
+
+pub filling_none : (before : List ℕ) (start : ℕ) → start ≤ length before → Filling before start before start
+filling_none before start h = record { long = refl; more = omega arith; inside = h; same = refl }
+
+-- a read, into all that is behind place `end`
+pub filling_read : {before : List ℕ} {start : ℕ} {after : List ℕ} {end : ℕ} → Filling before start after end → (ys : List ℕ)
+    → length ys ≡ length (mid_of end (length after - end) after) → Filling before start (put_mid end (length after - end) after ys) end
+filling_read {before} {start} {after} {end} f ys e =
+    record {
+      long = long ∙ f.long;
+      more = f.more;
+      inside = omega (arith, long, f.inside);
+      same = take_before start end (length after - end) after ys f.more f.inside ∙ f.same;
+    }
+  where
+    long : length (put_mid end (length after - end) after ys) ≡ length after
+    long = same_len_mid end (length after - end) after ys e
+
+-- and it brought k bytes
+pub record LineTurn (before : List ℕ) (start : ℕ) (after : List ℕ) (end : ℕ) (ys : List ℕ) (k : ℕ) : Type 0 where
+  pub fits : end + k ≤ length after
+  pub less : length (put_mid end (length after - end) after ys) - (end + k) < length after - end
+  pub filling : Filling before start (put_mid end (length after - end) after ys) (end + k)
+
+pub filling_turn : {before : List ℕ} {start : ℕ} {after : List ℕ} {end k : ℕ} → Filling before start after end → (ys : List ℕ)
+    → length ys ≡ length (mid_of end (length after - end) after) → Some (length ys) k → LineTurn before start after end ys k
+filling_turn {before} {start} {after} {end} {k} f ys e b =
+    record {
+      fits = fits;
+      less = omega (arith, fits, g.long, f.long, b.more);
+      filling = record { long = g.long; more = omega (arith, f.more); inside = omega (arith, fits, g.long, f.long); same = g.same };
+    }
+  where
+    g : Filling before start (put_mid end (length after - end) after ys) end
+    g = filling_read f ys e
+
+    fits : end + k ≤ length after
+    fits = let m = mid_len end (length after) after (omega arith) in omega (arith, f.inside, b.inside)
+
+pub filled : {R : Type 0} {before after : List ℕ} {s r : Source R} → Held (length before) s → Filling before s.end after r.end → r.at ≡ s.at → (r.ended ≡ false → r.end ≡ length after) → Filled before s after r
+filled h f e full = record { held = record { order = omega (arith, h.order, f.more); inside = f.inside }; start = e; more = f.more; same = f.same; full = full }
+
+-- bytes that wait where they waited
+pub leads_same : {R : Type 0} (buf : List ℕ) (s : Source R) → Held (length buf) s → Leads buf s buf s.at s.end
+leads_same buf s h = let e : s.at + (s.end - s.at) ≡ s.end = omega arith in record { room = omega arith; same = rw e }
+
+-- bytes that were moved to the front, with others read behind them
+pub refilled : {R : Type 0} {before shifted after : List ℕ} {s m r : Source R} (n : ℕ) → Held (length before) s → n ≡ s.end - s.at → m.at ≡ 0 → m.end ≡ n
+    → take n shifted ≡ slice s.at (s.at + n) before → Filled shifted m after r → Refilled before s after r
+refilled {R} {before} {shifted} {after} {s} {m} {r} n h en zero-at at_n moved f =
+    record { held = f.held; start = start; leads = record { room = omega (arith, f.more); same = same }; full = f.full }
+  where
+    start : r.at ≡ 0
+    start = f.start ∙ zero-at
+
+    wide : s.at + n ≡ s.end
+    wide = omega arith
+
+    kept : take n after ≡ take n shifted
+    kept = rw at_n at f.same
+
+    same : slice r.at (r.at + (s.end - s.at)) after ≡ slice s.at s.end before
+    same = let e : r.at + (s.end - s.at) ≡ n = omega arith in
+        rw (e, start) (kept ∙ moved ∙ rw wide)
+
+-- ---- so many bytes are there, or all that the file has left
+
+module _ (wanted : ℕ) where
+  pub ready_unreadable : {R : Type 0} (buf : List ℕ) (s : Source R) (file : Option R) (cause : Error) {r : Source R} → r ≡ unreadable file cause → (Held (length buf) s → ⊥) → WaitsFor wanted buf s buf r
+  ready_unreadable {R} buf s file cause e bad =
+      record {
+        held = rw e (record { order = omega arith; inside = omega arith });
+        leads = λ h. absurd (bad h);
+        enough = λ o. false_true (sym o ∙ ap (λ (q : Source R). q.ended) e);
+      }
+
+  pub ready_ended : {R : Type 0} (buf : List ℕ) (s : Source R) → Held (length buf) s → s.ended ≡ true → WaitsFor wanted buf s buf s
+  ready_ended buf s h e = record { held = h; leads = leads_same buf s; enough = λ o. false_true (sym o ∙ e) }
+
+  pub ready_enough : {R : Type 0} (buf : List ℕ) (s : Source R) → Held (length buf) s → wanted ≤ s.end - s.at → WaitsFor wanted buf s buf s
+  ready_enough buf s h e = record { held = h; leads = leads_same buf s; enough = λ o w. e }
+
+  pub ready_refilled : {R : Type 0} {before after : List ℕ} {s r : Source R} → Refilled before s after r → WaitsFor wanted before s after r
+  ready_refilled f = record { held = f.held; leads = λ h. f.leads; enough = λ o w. omega (arith, f.start, f.full o) }
 
 -- ---- the first line of what waits
 
