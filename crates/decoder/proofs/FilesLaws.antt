@@ -26,7 +26,7 @@ use Rattle.front.proofs.UnitLaws.{unit_accepted, unit_valid}
 use Rattle.front.proofs.PairLaws.{pair_accepted, length_symbols}
 use Rattle.front.proofs.RefusalLaws.{UnitLow, unit_low, PairLow, pair_low, ReferenceLow, reference_low}
 use Rattle.listing.specs.Record.{FirstLine}
-use Rattle.listing.specs.Files.{Read, good, wrong}
+use Rattle.listing.specs.Files.{good, wrong}
 use Rattle.listing.proofs.ResumeLaws.{first_line}
 use Rattle.decoder.specs.Files.{after_bases, joined_bases, read_reference, unit_by, read_unit, symbols_by, read_pair}
 

@@ -6,7 +6,7 @@ use native.Mathlib.Omega.{arith}
 use mathlib.Core.Path.{◌≡◌, refl, sym, ap, ◌∙◌}
 use mathlib.Core.List.{List, [], ◌∷◌, ◌++◌, append_assoc, append-nil}
 use lib.Dec.{ltb}
-use lib.ListN.{length, get_or, take, replicate, get_or-replicate, get_or-eq_default}
+use lib.ListN.{length, get_or, take, get_or-replicate, get_or-eq_default}
 use lib.Seq.{take-length, length-take-le}
 use borrow.Author.Tests.{ltb-true, ltb-false}
 use Rattle.refusal.specs.Numbers.{missing}

@@ -1,21 +1,20 @@
 -- The laws of a read's pieces: where a whole read's edits are accepted, each piece's own are, between its start and its end.
 -- Assumes nothing.
 use Prim.Native.Nat.{ℕ, zero, suc, ◌+◌, ◌-◌, ◌*◌, ◌<◌, ◌≤◌}
-use mathlib.Core.Path.{◌≡◌, refl, sym, ap, ◌∙◌}
-use mathlib.Core.Bool.{cond}
+use mathlib.Core.Path.{◌≡◌, refl, ap}
 use mathlib.Core.List.{List, [], ◌∷◌, ◌++◌}
 use native.Mathlib.Omega.{arith}
 use native.Mathlib.Nat.{suc-mul, zero-mul, add-zero, sub-zero}
-use borrow.Author.Tests.{lt-ltb, le-ltb, ltb-true, ltb-false, leb-false, lt-leb, le-leb, eqb-true, eqb-false, eq-eqb, ne_eqb}
+use borrow.Author.Tests.{lt-ltb, le-ltb, ltb-true, ltb-false, lt-leb}
 use lib.Dec.{ltb, leb, eqb}
-use lib.ListN.{length, length-append}
+use lib.ListN.{length}
 use Rattle.refusal.specs.Numbers.{fine}
 use Rattle.frame.proofs.Tests.{by_test}
 use Rattle.unit.specs.Unit.{class_n, class_m}
-use Rattle.edits.specs.Edits.{deletion, width_of, offset_at, edit_at, edit_list_at, next_offset, deletion_refusal, edit_refusal, Sound, taken_from}
-use Rattle.edits.specs.Pieces.{SignedPosition, edits_before, edits_behind, Piece, pieces_from, less_first, sum_of, last_length, EachPiece, nil, cons, Spans}
+use Rattle.edits.specs.Edits.{deletion, width_of, offset_at, edit_at, edit_list_at, next_offset, deletion_refusal, edit_refusal, Sound}
+use Rattle.edits.specs.Pieces.{SignedPosition, edits_before, edits_behind, Piece, pieces_from, sum_of, last_length, EachPiece, nil, cons, Spans}
 use Rattle.edits.specs.declared.edit.Edit.{Edit}
-use Rattle.edits.proofs.EditLaws.{EditAccepted, edit_accepted, next_deletion, next_other, next_most, sound_head, sound_tail, edits_on, edits_none}
+use Rattle.edits.proofs.EditLaws.{edit_accepted, edits_on, edits_none}
 
 -- ---- an edit that is accepted in the whole read
 

@@ -1,15 +1,15 @@
 -- The laws of checking a read's pieces, one by one.
 -- Assumes nothing.
-use Prim.Native.Nat.{ℕ, ◌+◌, ◌-◌, ◌*◌, ◌<◌, ◌≤◌}
+use Prim.Native.Nat.{ℕ, ◌+◌, ◌<◌, ◌≤◌}
 use mathlib.Core.Path.{◌≡◌, refl, sym, ap, ◌∙◌}
 use mathlib.Core.Bool.{true, false}
-use mathlib.Core.List.{List, [], ◌∷◌, ◌++◌}
+use mathlib.Core.List.{List, [], ◌∷◌}
 use native.Mathlib.Omega.{arith}
 use native.Mathlib.Nat.{add-zero, add_assoc}
-use borrow.Author.Tests.{lt-ltb, le-ltb, eq-eqb, ne_eqb, eqb-true, eqb-false, ltb-false}
-use lib.Dec.{ltb, eqb}
-use lib.ListN.{length, length-append}
-use Rattle.refusal.specs.Numbers.{fine, position_out, first_refusal}
+use borrow.Author.Tests.{lt-ltb, le-ltb, ne_eqb, eqb-true, eqb-false}
+use lib.Dec.{eqb}
+use lib.ListN.{length}
+use Rattle.refusal.specs.Numbers.{fine, position_out}
 use Rattle.frame.proofs.Tests.{by_test}
 use Rattle.unit.specs.declared.Unit.{Unit}
 use Rattle.edits.specs.Pieces.{Piece, below_zero, begins_at, spliced_seg_mapped_length, end_of}
@@ -36,7 +36,6 @@ use Rattle.pieces.specs.Placed.{piece_out, placed_piece, least_behind, pieces_re
 use Rattle.pieces.specs.Code.Checked.{text_of_piece, text_behind, run_here, piece_refused, piece_found, pieces_found, ReadyPiece, Looked, Walking}
 use Rattle.pieces.proofs.WalkingLaws.{behind_more, behind_last}
 use Rattle.pieces.specs.declared.check.PieceFound.{PieceFound}
-use Rattle.pieces.specs.declared.check.PiecesFound.{PiecesFound}
 
 -- ---- one piece
 

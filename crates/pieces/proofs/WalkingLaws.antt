@@ -1,24 +1,22 @@
 -- The laws of walking over a read's pieces: each is ready to be looked at, and those behind it can be walked over in their turn.
 -- Assumes nothing.
-use Prim.Native.Nat.{ℕ, suc, ◌+◌, ◌-◌, ◌*◌, ◌^◌, ◌<◌, ◌≤◌}
+use Prim.Native.Nat.{ℕ, ◌-◌, ◌≤◌}
 use mathlib.Core.Path.{◌≡◌, sym, subst}
 use mathlib.Core.List.{List, [], ◌∷◌}
 use native.Mathlib.Omega.{arith}
-use native.Mathlib.Nat.{add-mul, mul-le-mul_right}
+use native.Mathlib.Nat.{add-mul}
 use borrow.Author.Tests.{ltb-true, ltb-false}
 use lib.Dec.{ltb}
-use lib.ListN.{length}
 use Rattle.frame.proofs.Tests.{by_test}
 use Rattle.alphabet.specs.Table35.{size_of}
-use Rattle.limits.specs.Limits.{most_read, most_edits}
 use Rattle.edits.specs.Edits.{width_of}
-use Rattle.edits.specs.Pieces.{Piece, EachPiece, nil, cons, Spans}
+use Rattle.edits.specs.Pieces.{Piece, EachPiece, cons, Spans}
 use Rattle.edits.proofs.PieceLaws.{PieceSound}
 use Rattle.splices.specs.declared.walk.PieceWalk.{PieceWalk}
 use Rattle.splices.specs.declared.mapping.Mapping.{Mapping}
 use Rattle.splices.specs.Code.Mapping.{RoomFor}
 use Rattle.splices.specs.Code.Walk.{piece_here, pieces_left, next_piece, Walkable}
-use Rattle.splices.proofs.WalkLaws.{CutPiece, pieces_last, pieces_on, next_cut, next_kept}
+use Rattle.splices.proofs.WalkLaws.{pieces_last, pieces_on, next_cut, next_kept}
 use Rattle.bases.proofs.SplicedLaws.{spans_order}
 use Rattle.pieces.specs.Code.Checked.{ReadyPiece, Walking}
 

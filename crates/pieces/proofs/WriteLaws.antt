@@ -1,8 +1,7 @@
 -- The laws of writing a read's pieces, one by one.
 -- Assumes nothing.
-use Prim.Native.Nat.{ℕ, suc, ◌+◌, ◌-◌, ◌*◌, ◌^◌, ◌<◌, ◌≤◌}
-use mathlib.Core.Path.{◌≡◌, refl, sym, ap, ◌∙◌}
-use mathlib.Core.Bool.{true, false}
+use Prim.Native.Nat.{ℕ, suc, ◌+◌, ◌-◌, ◌*◌, ◌<◌, ◌≤◌}
+use mathlib.Core.Path.{◌≡◌, refl, ap, ◌∙◌}
 use mathlib.Core.List.{List, [], ◌∷◌, ◌++◌, append-nil}
 use native.Mathlib.Omega.{arith}
 use borrow.Author.Tests.{eq-eqb, ne_eqb, eqb-true, eqb-false, ltb-true, ltb-false}
@@ -12,13 +11,12 @@ use Rattle.frame.proofs.Tests.{by_test}
 use Rattle.writing.proofs.LayLaws.{Rest, rest_room, rest_room_end}
 use Rattle.alphabet.specs.Table35.{size_of}
 use Rattle.edits.specs.Edits.{insertion, deletion, next_offset, Sound, taken_from, edit_list_at, edit_at, width_of}
-use Rattle.edits.specs.Lengths.{mapped_length}
 use Rattle.edits.specs.Pieces.{Piece, begins_at, end_of, EachPiece}
 use Rattle.edits.specs.declared.edit.Edit.{Edit}
 use Rattle.edits.specs.declared.Block.{Block}
 use Rattle.edits.specs.declared.Run.{Run}
 use Rattle.edits.specs.Code.Runs.{run_of}
-use Rattle.edits.proofs.EditLaws.{EditAccepted, sound_accepted, next_deletion, next_other, edits_on, edits_none, length_edits}
+use Rattle.edits.proofs.EditLaws.{sound_accepted, next_deletion, next_other, edits_on, edits_none, length_edits}
 use Rattle.frame.specs.Field.{big_at}
 use Rattle.splices.specs.declared.walk.PieceWalk.{PieceWalk}
 use Rattle.splices.specs.declared.Splices.{Splices}

@@ -23,7 +23,7 @@ use Rattle.segment.specs.declared.Segment.{Segment}
 use Rattle.segment.specs.declared.Segment.TheVariants.{Absent}
 use Rattle.segment.specs.declared.SegmentRead.{SegmentRead}
 use Rattle.segment.specs.declared.SegmentRead.TheVariants as segment
-use Rattle.plan.specs.Plan.{plan, nothing_left_over, SegmentAt, segment_steps, aligned_steps, plain_steps, first_segment, second_segment, from_second, from_first, from_pos}
+use Rattle.plan.specs.Plan.{plan, nothing_left_over, SegmentAt, segment_steps, aligned_steps, first_segment, second_segment, from_second, from_first, from_pos}
 use Rattle.plan.specs.declared.read.Plan.{Plan}
 
 abbrev QuietSegment : Steps SegmentAt → Type 0

@@ -8,7 +8,6 @@ use borrow.Author.Tests.{ltb-true, ltb-false, eqb-true, eqb-false}
 use lib.Dec.{ltb, eqb}
 use Rattle.refusal.specs.Numbers.{fine}
 use Rattle.frame.specs.declared.field.Cursor.{Cursor}
-use Rattle.frame.specs.Hex.{unhex}
 use Rattle.frame.proofs.HexLaws.{by_test}
 use Rattle.unit.specs.Unit.{class_i, class_hm, class_u}
 use Rattle.unit.specs.declared.Unit.{Unit}
@@ -19,9 +18,8 @@ use Rattle.taking.proofs.Decoding.{decode_follows, then_came}
 use Rattle.pairing.specs.Table60.{mapping_pos}
 use Rattle.pairing.specs.Pairing.{pair_steps, pair_of}
 use Rattle.pairing.proofs.Laws.{pair_came}
-use Rattle.edits.specs.Pieces.{SignedPosition, pieces_of}
-use Rattle.splices.specs.declared.Splices.{Splices}
-use Rattle.splices.specs.Located.{positions_from, lengths_in, first_mapping, pieces_in}
+use Rattle.edits.specs.Pieces.{pieces_of}
+use Rattle.splices.specs.Located.{positions_from, first_mapping, pieces_in}
 use Rattle.pieces.specs.Placed.{pieces_refusal}
 use Rattle.block.specs.Aligned.{aligned_at}
 use Rattle.block.specs.Head.{head_at}
@@ -32,7 +30,7 @@ use Rattle.block.specs.declared.aligned.AlignedRead.TheVariants as aligned
 use Rattle.block.specs.declared.unaligned.UnalignedBlock.{UnalignedBlock}
 use Rattle.block.proofs.ReadyLaws.{block_head}
 use Rattle.block.proofs.HeadLaws.{HeadSpliced, head_positions}
-use Rattle.segment.specs.Segment.{unless_refused, block_pieces, placement, placed_segment, placed, after_block, placed_at, plain_at, edits_in, lengths_of, pieces_at}
+use Rattle.segment.specs.Segment.{unless_refused, block_pieces, placement, placed_segment, placed, after_block, placed_at, plain_at, edits_in, lengths_of}
 use Rattle.segment.specs.Listed.{mapped_in}
 use Rattle.segment.specs.declared.Placed.{Placed}
 use Rattle.segment.specs.declared.Segment.{Segment}

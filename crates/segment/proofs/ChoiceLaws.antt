@@ -1,25 +1,24 @@
 -- The laws of the two ways in which a block is placed: of one piece as it was counted, of more piece by piece. Both come to `placed`.
 -- Assumes nothing.
-use Prim.Native.Nat.{ℕ, ◌+◌, ◌-◌, ◌*◌, ◌^◌, ◌<◌, ◌≤◌}
+use Prim.Native.Nat.{ℕ, ◌+◌, ◌^◌, ◌<◌, ◌≤◌}
 use mathlib.Core.Path.{◌≡◌, refl, sym, ap, ◌∙◌}
-use mathlib.Core.List.{List, [], ◌∷◌}
+use mathlib.Core.List.{List}
 use native.Mathlib.Omega.{arith}
 use native.Mathlib.Nat.{zero-add}
-use borrow.Author.Tests.{eq-eqb, ne_eqb, eqb-true, eqb-false}
+use borrow.Author.Tests.{ne_eqb, eqb-true}
 use lib.Dec.{eqb}
 use lib.ListN.{length}
-use Rattle.refusal.specs.Numbers.{fine, first_refusal}
+use Rattle.refusal.specs.Numbers.{fine}
 use Rattle.frame.proofs.HexLaws.{by_test}
 use Rattle.unit.specs.declared.Unit.{Unit}
 use Rattle.alphabet.specs.Table35.{size_of}
 use Rattle.state.proofs.HeadLaws.{length_words_at}
-use Rattle.edits.specs.Edits.{taken_from, block_edits}
+use Rattle.edits.specs.Edits.{block_edits}
 use Rattle.edits.specs.Lengths.{mapped_length}
 use Rattle.edits.specs.Pieces.{less_first}
 use Rattle.edits.proofs.EditLaws.{length_edits}
 use Rattle.splices.specs.Located.{positions_from, lengths_in, first_mapping, pieces_in}
-use Rattle.ecigar.specs.Ecigar.{ecigar_text, clips_length}
-use Rattle.ecigar.specs.Spliced.{read_text}
+use Rattle.ecigar.specs.Ecigar.{clips_length}
 use Rattle.tables.proofs.SplicedLaws.{PositionFits, clipped_length, length_read, pieces_most, pieces_edits_lem}
 use Rattle.pieces.specs.Place.{place_refusal}
 use Rattle.pieces.specs.Placed.{pieces_refusal}
@@ -28,11 +27,10 @@ use Rattle.pieces.specs.declared.check.PiecesFound.{PiecesFound}
 use Rattle.pieces.proofs.WriteLaws.{behind_is_pieces, text_behind_lem}
 use Rattle.block.specs.declared.aligned.AlignedBlock.{AlignedBlock}
 use Rattle.segment.specs.Segment.{unless_refused, block_pieces, text_length, placed}
-use Rattle.segment.specs.Code.Ready.{Pieced, Tallied}
+use Rattle.segment.specs.Code.Ready.{Tallied}
 use Rattle.segment.specs.Code.Whole.{under_matches, whole_at}
-use Rattle.segment.specs.declared.SegmentRead.{SegmentRead}
 use Rattle.segment.specs.declared.SegmentRead.TheVariants.{Refused}
-use Rattle.segment.proofs.OneLaws.{only_piece, only_piece_lem, only_refusal, only_text}
+use Rattle.segment.proofs.OneLaws.{only_piece_lem, only_refusal, only_text}
 use Rattle.segment.proofs.PiecedLaws.{all_sound, all_span}
 use Rattle.segment.proofs.PlacedLaws.{all_placed, placed_each, begins, placed_begins, pieces_few}
 

@@ -1,13 +1,11 @@
 -- The laws of a read in one piece: what is refused of it, its bases and its text are those of a read without splices.
 -- Assumes nothing.
-use Prim.Native.Nat.{ℕ, ◌+◌, ◌-◌}
-use mathlib.Core.Path.{◌≡◌, refl, sym, ap, ◌∙◌}
+use Prim.Native.Nat.{ℕ, ◌-◌}
+use mathlib.Core.Path.{◌≡◌, refl}
 use mathlib.Core.List.{List, [], ◌∷◌}
 use native.Mathlib.Omega.{arith}
 use native.Mathlib.Nat.{sub-zero}
 use borrow.Author.Tests.{le-ltb}
-use lib.Dec.{ltb}
-use lib.ListN.{length}
 use Rattle.refusal.specs.Numbers.{fine, first_refusal}
 use Rattle.unit.specs.declared.Unit.{Unit}
 use Rattle.state.specs.Listed.{words_at}

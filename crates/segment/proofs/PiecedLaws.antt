@@ -1,16 +1,16 @@
 -- The laws of a read whose block was accepted: its pieces can be walked over, and its text is Table 94's.
 -- Assumes nothing.
-use Prim.Native.Nat.{ℕ, zero, suc, ◌+◌, ◌-◌, ◌*◌, ◌^◌, ◌<◌, ◌≤◌}
+use Prim.Native.Nat.{ℕ, zero, suc, ◌+◌, ◌^◌, ◌<◌, ◌≤◌}
 use mathlib.Core.Bool.{false}
 use mathlib.Core.Path.{◌≡◌, refl, sym, ap, subst, ◌∙◌}
 use mathlib.Core.List.{List, [], ◌∷◌}
 use native.Mathlib.Omega.{arith}
-use borrow.Author.Tests.{ltb-true, ltb-false, eq-eqb, ne_eqb, eqb-true, eqb-false}
+use borrow.Author.Tests.{ltb-true, ltb-false, ne_eqb, eqb-false}
 use lib.Dec.{ltb, eqb}
 use lib.ListN.{length}
 use Rattle.frame.specs.Field.{big_at}
 use Rattle.frame.proofs.HexLaws.{by_test}
-use Rattle.unit.specs.Unit.{class_p, class_n, class_m, class_i, class_hm}
+use Rattle.unit.specs.Unit.{class_p, class_n, class_m, class_i}
 use Rattle.unit.specs.declared.Unit.{Unit}
 use Rattle.alphabet.specs.Table35.{size_of}
 use Rattle.state.specs.Listed.{words_at}
@@ -18,24 +18,24 @@ use Rattle.state.proofs.HeadLaws.{length_words_at}
 use Rattle.edits.specs.Edits.{block_edits}
 use Rattle.edits.specs.Code.Runs.{substitutes_only}
 use Rattle.edits.specs.Lengths.{mapped_length}
-use Rattle.edits.specs.Pieces.{SignedPosition, Piece, pieces_from, less_first, EachPiece, nil, cons, Spans, sum_of, last_length}
+use Rattle.edits.specs.Pieces.{EachPiece, nil, cons, Spans, sum_of, last_length}
 use Rattle.edits.specs.declared.Block.{Block}
 use Rattle.edits.proofs.EditLaws.{length_edits}
-use Rattle.edits.proofs.PieceLaws.{PieceSound, NoneZero}
+use Rattle.edits.proofs.PieceLaws.{PieceSound}
 use Rattle.splices.specs.declared.Splices.{Splices}
 use Rattle.splices.specs.declared.mapping.Mapping.{Mapping}
 use Rattle.splices.specs.Located.{following, positions_from, lengths_in, first_mapping, pieces_in}
 use Rattle.splices.specs.Code.Walk.{pieces_left, first_piece, NarrowSplices}
 use Rattle.splices.proofs.WalkLaws.{pieces_begin, first_cut, begin_kept, begin_mapping}
-use Rattle.tables.specs.Table92.{ecigar_string, offsets_of, letters_in, types_of}
-use Rattle.tables.specs.Table94.{SplicedSeg, spliced_ecigar_string, spliced_segs_from}
+use Rattle.tables.specs.Table92.{ecigar_string}
+use Rattle.tables.specs.Table94.{SplicedSeg, spliced_ecigar_string}
 use Rattle.ecigar.specs.Ecigar.{OfItsClass}
 use Rattle.ecigar.specs.Spliced.{read_text, ClipsLeave}
 use Rattle.tables.proofs.SplicedLaws.{pieces_of_sound, pieces_of_span}
 use Rattle.tables.proofs.Table92Laws.{ecigar_is_table92}
 use Rattle.tables.proofs.Table94Laws.{read_is_table94}
 use Rattle.bases.proofs.ReferenceLaws.{length_letters}
-use Rattle.pieces.specs.Code.Checked.{WalkBegun, Walking}
+use Rattle.pieces.specs.Code.Checked.{WalkBegun}
 use Rattle.segment.specs.Segment.{edits_in, pieces_at, left_soft_clips, right_soft_clips, table92, table94}
 use Rattle.segment.specs.Code.Ready.{Pieced}
 use Rattle.segment.specs.declared.Placed.{Placed}

@@ -1,8 +1,8 @@
 -- The laws of a read's pieces that were accepted: each has a position inside the unit, they are in order and apart, and the reference under their matches is known.
 -- Assumes nothing.
-use Prim.Native.Nat.{ℕ, zero, suc, ◌+◌, ◌-◌, ◌^◌, ◌<◌, ◌≤◌}
-use mathlib.Core.Path.{◌≡◌, refl, sym, ap, ◌∙◌}
-use mathlib.Core.Bool.{true, false}
+use Prim.Native.Nat.{ℕ, zero, suc, ◌+◌, ◌-◌, ◌≤◌}
+use mathlib.Core.Path.{◌≡◌, refl, ap, ◌∙◌}
+use mathlib.Core.Bool.{false}
 use mathlib.Core.List.{List, [], ◌∷◌}
 use native.Mathlib.Omega.{arith}
 use native.Mathlib.Nat.{sub-zero}
@@ -21,13 +21,11 @@ use Rattle.edits.specs.Pieces.{SignedPosition, straight, position_of, Piece, edi
 use Rattle.edits.specs.declared.Block.{Block}
 use Rattle.splices.specs.declared.Splices.{Splices}
 use Rattle.splices.specs.declared.mapping.Mapping.{Mapping}
-use Rattle.splices.specs.Located.{position_in, positions_from, lengths_in, first_mapping, pieces_in}
+use Rattle.splices.specs.Located.{position_in, positions_from, first_mapping, pieces_in}
 use Rattle.ecigar.specs.Spliced.{Apart, last_piece}
-use Rattle.tables.proofs.SplicedLaws.{PositionFits}
 use Rattle.bases.specs.Spliced.{piece_refusal}
-use Rattle.pieces.specs.Place.{place_refusal}
 use Rattle.pieces.specs.Placed.{piece_out, placed_piece, least_behind, pieces_refusal}
-use Rattle.pieces.specs.Code.Written.{Standing, Ordered}
+use Rattle.pieces.specs.Code.Written.{Ordered}
 use Rattle.pieces.proofs.PlaceLaws.{Inside, place_inside}
 
 -- ---- a piece that is not refused

@@ -1,6 +1,6 @@
 -- The laws of a segment that was accepted: it is ready to be written, its bytes are as many as `segment_length` says, and that is at most `most_segment_bytes`.
 -- Assumes nothing.
-use mathlib.Core.Path.{◌≡◌, refl, ap, ◌∙◌}
+use mathlib.Core.Path.{◌≡◌, refl, ap}
 use mathlib.Core.List.{List}
 use Prim.Native.Nat.{ℕ, zero, suc, ◌+◌, ◌^◌, ◌<◌, ◌≤◌}
 use native.Mathlib.Omega.{arith}
@@ -27,7 +27,7 @@ use Rattle.bases.proofs.SplicedLaws.{length_read_bases}
 use Rattle.pieces.specs.Placed.{pieces_refusal}
 use Rattle.pieces.specs.Code.Written.{Standing}
 use Rattle.ecigar.specs.Ecigar.{OfItsClass}
-use Rattle.block.specs.Checked.{most_rcomp, length_at, after_checked}
+use Rattle.block.specs.Checked.{length_at, after_checked}
 use Rattle.block.specs.Symbols.{symbols_from}
 use Rattle.block.specs.Aligned.{aligned_at}
 use Rattle.block.specs.Unaligned.{from_length, unaligned_at}

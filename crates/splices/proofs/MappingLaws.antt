@@ -1,24 +1,22 @@
 -- Where the pieces map: what is looked up where their symbols stand is what Table 62 comes to.
 -- Assumes nothing.
-use Prim.Native.Nat.{ℕ, zero, suc, ◌+◌, ◌-◌, ◌<◌, ◌≤◌}
+use Prim.Native.Nat.{ℕ, ◌+◌}
 use mathlib.Core.Path.{◌≡◌, refl, sym, ap, ◌∙◌}
-use mathlib.Core.Bool.{cond}
 use mathlib.Core.List.{List, [], ◌∷◌}
 use native.Mathlib.Omega.{arith}
 use borrow.Author.Tests.{eqb-true, eqb-false, eq-eqb, ne_eqb}
 use lib.Dec.{ltb, eqb}
-use lib.ListN.{length, get_or}
 use Rattle.frame.proofs.Tests.{by_test}
 use Rattle.unit.specs.Unit.{largest16}
-use Rattle.state.specs.State.{index_count, Shaped, taken, raised}
+use Rattle.state.specs.State.{Shaped, taken, raised}
 use Rattle.state.specs.declared.State.{State}
 use Rattle.taking.specs.Take.{symbol_of}
-use Rattle.taking.specs.Steps.{Steps, sets, within16, and_then, Came, came, stopped, with_symbol, decode}
+use Rattle.taking.specs.Steps.{sets, within16, and_then, Came, came, stopped, with_symbol, decode}
 use Rattle.taking.proofs.Taking.{take_cases, raised_other, raised_same, raised_long}
 use Rattle.taking.proofs.Decoding.{then_came}
 use Rattle.edits.specs.Pieces.{SignedPosition, straight, onwards}
 use Rattle.splices.specs.Table62.{by_delta, same_rec_short, same_rec_long, table62, next_mapping_pos, spliced_seg_mapping_pos}
-use Rattle.splices.specs.Located.{symbol_at, position_in, mapping_of, following, positions_from}
+use Rattle.splices.specs.Located.{mapping_of, following, positions_from}
 use Rattle.splices.specs.declared.mapping.Mapping.{Mapping}
 
 -- where a piece at a position maps, and its next symbols stand

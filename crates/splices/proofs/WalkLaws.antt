@@ -2,17 +2,16 @@
 -- Assumes nothing.
 use Prim.Native.Nat.{ℕ, zero, suc, ◌+◌, ◌-◌, ◌*◌, ◌<◌, ◌≤◌}
 use mathlib.Core.Path.{◌≡◌, refl, sym, ap, ◌∙◌}
-use mathlib.Core.Bool.{true, false}
 use mathlib.Core.List.{List, [], ◌∷◌}
 use native.Mathlib.Omega.{arith}
-use native.Mathlib.Nat.{add-zero, zero-add}
+use native.Mathlib.Nat.{add-zero}
 use borrow.Author.Tests.{lt-ltb, le-ltb, ltb-true, ltb-false}
 use lib.Dec.{ltb}
 use lib.ListN.{length, get_or-eq_default}
 use Rattle.frame.specs.Field.{big_at}
 use Rattle.frame.proofs.Tests.{by_test}
 use Rattle.state.specs.Listed.{words_at}
-use Rattle.edits.specs.Edits.{width_of, edit_at, edit_list_at, block_edits}
+use Rattle.edits.specs.Edits.{width_of, edit_list_at, block_edits}
 use Rattle.edits.specs.Lengths.{mapped_length}
 use Rattle.edits.specs.Pieces.{SignedPosition, Piece, edits_before, edits_behind, pieces_from, less_first}
 use Rattle.edits.specs.Code.Runs.{run_of}
@@ -24,7 +23,7 @@ use Rattle.edits.proofs.PieceLaws.{edit_offset, before_first, behind_rest, befor
 use Rattle.splices.specs.declared.Splices.{Splices}
 use Rattle.splices.specs.declared.mapping.Mapping.{Mapping}
 use Rattle.splices.specs.declared.walk.PieceWalk.{PieceWalk}
-use Rattle.splices.specs.Located.{position_in, following, positions_from, lengths_in, first_mapping, pieces_in}
+use Rattle.splices.specs.Located.{position_in, following, positions_from, first_mapping, pieces_in}
 use Rattle.splices.specs.Code.Walk.{edits_to, cut_piece, first_piece, run_behind, next_piece, piece_here, pieces_left}
 
 -- ---- how many edits stand before an offset does not depend on the alphabet

@@ -1,8 +1,6 @@
 -- `decoder::record_turn` meets its contract: what the record call answers picks the case, and it has room. Assumes nothing.
-use Prim.Native.Nat.{◌^◌, ◌<◌}
 use Rattle.decoder.proofs.TurnLaws.{record_missing, turn_listed, turn_refused}
 use borrow.Author.Rules.{rules}
-use Rattle.state.specs.State.{Shaped}
 use Rattle.decoder.proofs.record_turn.Goals as goal
 
 pub returns-then-line-eq0 : goal.returns-then-line-eq0

@@ -1,7 +1,7 @@
 -- For the code, not for the reader.
 -- What the check of a read's pieces answers, and what it leaves for their writing.
 -- Assumes nothing.
-use Rattle.std.specs.Prelude.{ℕ, ◌+◌, ◌-◌, ◌*◌, ◌^◌, ◌<◌, ◌≤◌, ◌≡◌, false, cond, List, [], ◌∷◌, ◌++◌, eqb, length}
+use Rattle.std.specs.Prelude.{ℕ, ◌+◌, ◌-◌, ◌*◌, ◌≤◌, ◌≡◌, false, cond, List, [], ◌∷◌, ◌++◌, eqb, length}
 use Rattle.refusal.specs.Numbers.{fine}
 use Rattle.unit.specs.declared.Unit.{Unit}
 use Rattle.alphabet.specs.Table35.{size_of}

@@ -1,5 +1,4 @@
 -- `record::of_frame` meets its contract: what was read refuses, or is settled. Assumes nothing.
-use Prim.Native.Nat.{◌^◌, ◌<◌}
 use mathlib.Core.Path.{refl}
 use Rattle.record.proofs.CallLaws.{read_step_lem, number_fits, frame_ready}
 use borrow.Author.Rules.{rules}

@@ -1,15 +1,10 @@
 -- `record::settle` meets its contract: `record_no_room`, and `record_room` over the bytes of the line, which are as many as the code counts. Assumes nothing.
-use Prim.Native.Nat.{ℕ, ◌+◌}
-use mathlib.Core.Path.{◌≡◌, ◌∙◌}
-use mathlib.Core.List.{List}
+use mathlib.Core.Path.{◌∙◌}
 use native.Mathlib.Omega.{arith}
-use lib.ListN.{length, length-set}
+use lib.ListN.{length-set}
 use Rattle.writing.proofs.LayLaws.{length_laid}
-use Rattle.state.specs.Listed.{least_listed}
-use Rattle.state.specs.declared.State.{State}
-use Rattle.segment.specs.Code.Length.{segment_length}
 use Rattle.record.specs.Record.{listed_bytes}
-use Rattle.state.specs.State.{after, Shaped}
+use Rattle.state.specs.State.{after}
 use Rattle.record.proofs.BytesLaws.{length_listed}
 use Rattle.record.proofs.RoomLaws.{record_no_room, record_room}
 use borrow.Author.Rules.{rules}

@@ -6,11 +6,6 @@ use Rattle.edits.specs.Edits.{block_edits}
 use Rattle.bases.specs.Bases.{beginning}
 use Rattle.bases.specs.Reference.{match_refusal}
 use Rattle.bases.proofs.AlignmentLaws.{taken_fine}
-use Rattle.segment.proofs.under_matches.Reads as reads
-use Rattle.segment.proofs.under_matches.Lts as lts
-use Rattle.bases.proofs.check_positions.Reads as check-positions-reads
-use Rattle.bases.proofs.check_reference.Reads as check-reference-reads
-use Rattle.edits.proofs.run_of.Reads as run-of-reads
 use Rattle.segment.proofs.under_matches.Goals as goal
 
 -- src/lib.rt:112:9

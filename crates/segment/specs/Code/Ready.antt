@@ -1,7 +1,7 @@
 -- For the code, not for the reader.
 -- What the check of a segment leaves for its writing: `placed_taken` and `plain_taken` (proofs/SegmentLaws) show it of every segment that was accepted.
 -- Assumes nothing.
-use Rattle.std.specs.Prelude.{ℕ, ◌+◌, ◌*◌, ◌^◌, ◌<◌, ◌≤◌, ◌≡◌, List, length}
+use Rattle.std.specs.Prelude.{ℕ, ◌+◌, ◌*◌, ◌<◌, ◌≤◌, ◌≡◌, List, length}
 use Rattle.unit.specs.declared.Unit.{Unit as UnitOf}
 use Rattle.unit.specs.Unit.{class_i}
 use Rattle.alphabet.specs.Table35.{size_of}

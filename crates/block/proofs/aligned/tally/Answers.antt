@@ -1,12 +1,11 @@
 -- `block::aligned::tally` meets its contract: what the check of the edits answered picks the case. Assumes nothing.
 use Prim.Native.Nat.{◌-◌, ◌^◌}
-use mathlib.Core.Path.{◌≡◌, sym, ap, ◌∙◌}
+use mathlib.Core.Path.{sym, ap, ◌∙◌}
 use native.Mathlib.Omega.{arith}
 use Rattle.block.proofs.Steps.{block_steps}
 use Rattle.edits.proofs.EditLaws.{edits_bytes}
 use Rattle.ecigar.proofs.LengthLaws.{ClipsFit, clips_most, text_most}
 use Rattle.ecigar.proofs.CheckLaws.{checked_fine, behind_fits}
-use Rattle.edits.specs.Lengths.{mapped_length}
 use Rattle.edits.specs.declared.Run.{Run}
 use Rattle.ecigar.specs.Check.{check_of}
 use Rattle.block.specs.Aligned.{edits_tallied}

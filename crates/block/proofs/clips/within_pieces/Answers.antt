@@ -1,8 +1,6 @@
 -- `block::clips::within_pieces` meets its contract: the first and the last length stand where it reads them. Assumes nothing.
-use mathlib.Core.Path.{◌≡◌, sym, ◌∙◌}
+use mathlib.Core.Path.{sym, ◌∙◌}
 use native.Mathlib.Omega.{arith}
-use Rattle.edits.specs.Pieces.{last_length}
-use Rattle.splices.specs.Located.{lengths_in}
 use Rattle.block.specs.Clips.{clips_in_pieces}
 use Rattle.block.proofs.LengthLaws.{last_length_lem, length_inside}
 use Rattle.block.proofs.Steps.{clip_reaches, clip_below}

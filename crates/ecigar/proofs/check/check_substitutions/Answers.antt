@@ -1,9 +1,7 @@
 -- `ecigar::check::check_substitutions` meets its contract. The loop's invariant: there is a tally that has come so far, and from it the check of the edits that are left comes to what the whole comes to. Assumes nothing.
-use Prim.Native.Nat.{◌*◌, ◌≤◌}
 use mathlib.Core.Path.{refl, sym, ◌∙◌}
 use native.Mathlib.Omega.{arith}
 use borrow.Author.Tests.{ltb-false}
-use Rattle.edits.specs.Lengths.{most_read}
 use Rattle.edits.proofs.EditLaws.{edit_accepted}
 use Rattle.ecigar.proofs.CheckLaws.{check_start, check_short, check_out}
 use Rattle.ecigar.proofs.SubstitutionLaws.{substitutions_start, substitutions_on, substitutions_end}

@@ -1,10 +1,7 @@
 -- `edits::edit::edit_at` meets its contract: a substitution, or an edit with its four bytes, `edit_full`. Assumes nothing.
-use mathlib.Core.Path.{◌≡◌, sym, ◌∙◌}
-use mathlib.Core.Bool.{false}
+use mathlib.Core.Path.{sym, ◌∙◌}
 use native.Mathlib.Omega.{arith}
 use Rattle.edits.proofs.EditLaws.{edit_full, width_full}
-use Rattle.edits.specs.Edits.{width_of}
-use Rattle.edits.specs.Code.Runs.{substitutes_only}
 use Rattle.edits.proofs.edit.edit_at.Goals as goal
 
 pub substitution_at-requires : goal.substitution_at-requires
