@@ -4,7 +4,7 @@ use mathlib.Core.Path.{◌≡◌, refl, ap, sym, ◌∙◌}
 use mathlib.Core.Bool.{Bool, true, false, cond}
 use mathlib.Core.Logic.{◌⊎◌, inl, inr, ⊎_elim}
 use mathlib.Core.List.{List, [], ◌∷◌}
-use Prim.Native.Nat.{ℕ, zero, suc, ◌+◌, ◌*◌, ◌/◌, ◌%◌, ◌<◌, ◌≤◌}
+use Prim.Native.Nat.{ℕ, zero, suc, ◌+◌, ◌*◌, ◌/◌, ◌%◌, ◌<◌, ◌≤◌, min}
 use native.Mathlib.Nat.{zero-add}
 use native.Mathlib.Omega.{arith}
 use borrow.Author.Tests.{ne_eqb, ltb-true, ltb-false, leb-true, leb-false}
@@ -177,3 +177,9 @@ laid_five {d = d} symbol e f g =
     let low : d % 256 ≡ glyph (l / 16) = omega arith in
     let high : d / 256 ≡ glyph (l % 16) = omega arith in
     record { to = f; holds = g ∙ rw (low, high) }
+
+-- ---- the place, as the lower of two numbers
+
+pub place_min : (symbol : ℕ) → min symbol 16 ≡ place_of symbol
+unfolding place_of
+place_min symbol = by_test (ltb symbol 16) (λ t. rw t (omega (arith, ltb-true symbol 16 t))) (λ t. rw t (omega (arith, ltb-false symbol 16 t)))

@@ -29,8 +29,8 @@ pub fn put_five(out: &mut [u8], at: usize, symbol: u8) -> usize
     requires { at + 2 ≤ length out.old }
     ensures { Laid out.old out.new at result (letter_of 0 symbol ∷ []) }
 {
-    let digits = digits_of(symbol);
-    out[at] = (digits % 256) as u8;
-    out[at + 1] = (digits / 256) as u8;
+    let [high, low] = digits_of(symbol).to_le_bytes();
+    out[at] = high;
+    out[at + 1] = low;
     at + 2
 }

@@ -8,10 +8,7 @@ use crate::DIGITS;
 fn place_of(symbol: u8) -> usize
     ensures { result ≡ 2 * place_of symbol }
 {
-    if symbol < 16 {
-        return 2 * symbol as usize;
-    }
-    32
+    2 * usize::from(symbol.min(16))
 }
 
 // A symbol's letter, from the table of an alphabet's digits (`laid_letter`). Both digits are read before one is stored, so that they are moved at once.

@@ -3,7 +3,7 @@
 use Prim.Native.Nat.{ℕ, zero, suc, ◌+◌, ◌-◌, ◌<◌, ◌≤◌}
 use mathlib.Core.Path.{◌≡◌, refl, ap, ◌∙◌}
 use mathlib.Core.Logic.{◌⊎◌, inl, inr, ⊎_elim}
-use mathlib.Core.Bool.{cond}
+use mathlib.Core.Bool.{true, cond}
 use mathlib.Core.List.{List, [], ◌∷◌, ◌++◌}
 use native.Mathlib.Omega.{arith}
 use native.Mathlib.Nat.{add-zero}
@@ -11,8 +11,12 @@ use borrow.Author.Tests.{ltb-true, ltb-false, eqb-true, eqb-false}
 use lib.Dec.{ltb, eqb}
 use lib.ListN.{length, get_or, length-append, get_or-append}
 use lib.Seq.{get_or-append-add}
-use Rattle.refusal.specs.Numbers.{fine, first_refusal}
+use Rattle.std.specs.Prelude.{⊤, Ok, Err}
+use Rattle.std.specs.Result.{is_ok}
+use Rattle.refusal.specs.Answers.{OrRefused, fine, checked}
+use Rattle.refusal.proofs.AnswerLaws.{past_checked}
 use Rattle.frame.proofs.HexLaws.{by_test}
+use Rattle.frame.proofs.Tests.{false_true}
 use Rattle.alphabet.specs.Table35.{size_of, letter_of}
 use Rattle.edits.specs.declared.edit.Edit.{Edit}
 use Rattle.edits.specs.Edits.{insertion, deletion, next_offset, Sound, taken_from}
@@ -186,11 +190,16 @@ from_somewhere mapped symbols p (e ∷ es) i s h l =
 
 -- ---- refusal 10 of the reference
 
-first_left : (a b : ℕ) → first_refusal a b ≡ fine → a ≡ fine
-first_left a b z = by_test (eqb a fine) (λ t. eqb-true a fine t) (λ t. simp t at z)
+-- a check that accepts says no more
+pub is_fine : (x : OrRefused ⊤) → is_ok x ≡ true → x ≡ fine
+is_fine (Ok t) q = refl
+is_fine (Err refusal) q = false_true q
 
-first_right : (a b : ℕ) → first_refusal a b ≡ fine → b ≡ fine
-first_right a b z = by_test (eqb a fine) (λ t. simp t at z) (λ t. absurd (eqb-false a fine t (simp t at z)))
+first_left : (a b : OrRefused ⊤) → checked a b ≡ fine → a ≡ fine
+first_left a b z = (past_checked a b tt z).0
+
+first_right : (a b : OrRefused ⊤) → checked a b ≡ fine → b ≡ fine
+first_right a b z = (past_checked a b tt z).1
 
 module _ (alphabet : ℕ) (reference : List ℕ) (first : ℕ) where
   match_fine : (position n k : ℕ) → match_refusal alphabet reference first position n ≡ fine → k < n → base_refusal alphabet reference first (position + k) ≡ fine

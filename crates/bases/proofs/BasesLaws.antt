@@ -8,7 +8,9 @@ use native.Mathlib.Omega.{arith}
 use borrow.Author.Tests.{eq-eqb, ne_eqb, eqb-true}
 use lib.Dec.{eqb}
 use lib.ListN.{length, length-append}
-use Rattle.refusal.specs.Numbers.{fine}
+use Rattle.std.specs.Prelude.{⊤, Ok, Err}
+use Rattle.refusal.specs.declared.Refusal.{Refusal}
+use Rattle.refusal.specs.Answers.{OrRefused}
 use Rattle.writing.specs.Lay.{Laid}
 use Rattle.frame.proofs.HexLaws.{by_test}
 use Rattle.writing.proofs.LayLaws.{Rest, rest_room, laid_then, laid_room, length_laid}
@@ -87,15 +89,15 @@ module _ (class alphabet : ℕ) (frame reference : List ℕ) (first mapped : ℕ
   unfolding bases_from
   bases_end h = rw (edits_none class alphabet frame k at h)
 
-  pub refusal_on : (e : Edit) {n : ℕ} → e ≡ edit_at class alphabet frame at → 0 < k → n ≡ match_refusal alphabet reference first (R p) (e.offset - r p) → n ≡ fine
+  pub refusal_on : (e : Edit) {n : OrRefused ⊤} {t : ⊤} → e ≡ edit_at class alphabet frame at → 0 < k → n ≡ match_refusal alphabet reference first (R p) (e.offset - r p) → n ≡ Ok t
       → refusal_from alphabet reference first mapped p (edit_list_at class alphabet frame k at) ≡ refusal_from alphabet reference first mapped (past_edit e p) (edit_list_at class alphabet frame (k - 1) (at + width_of class))
   unfolding refusal_from
-  refusal_on e q h m z = rw (edits_on class alphabet frame k at e q h, ← m, eq-eqb _ _ z)
+  refusal_on e q h m z = rw (edits_on class alphabet frame k at e q h, ← m, z)
 
-  pub refusal_out : (e : Edit) {n : ℕ} → e ≡ edit_at class alphabet frame at → 0 < k → n ≡ match_refusal alphabet reference first (R p) (e.offset - r p) → (n ≡ fine → ⊥)
-      → refusal_from alphabet reference first mapped p (edit_list_at class alphabet frame k at) ≡ n
+  pub refusal_out : (e : Edit) {n : OrRefused ⊤} {refusal : Refusal} → e ≡ edit_at class alphabet frame at → 0 < k → n ≡ match_refusal alphabet reference first (R p) (e.offset - r p) → n ≡ Err refusal
+      → refusal_from alphabet reference first mapped p (edit_list_at class alphabet frame k at) ≡ Err refusal
   unfolding refusal_from
-  refusal_out e q h m z = rw (edits_on class alphabet frame k at e q h, ← m, ne_eqb _ _ z)
+  refusal_out e q h m z = rw (edits_on class alphabet frame k at e q h, ← m, z)
 
   pub refusal_end : k ≤ 0 → refusal_from alphabet reference first mapped p (edit_list_at class alphabet frame k at) ≡ match_refusal alphabet reference first (R p) (mapped - r p)
   unfolding refusal_from

@@ -1,16 +1,19 @@
 -- The laws of the lent reference: a run of positions is padding, lent bases and padding (10.2.2, Figure 5), for its letters and for refusal 10.
 -- Assumes nothing.
-use Prim.Native.Nat.{ℕ, zero, suc, ◌+◌, ◌-◌, ◌*◌, ◌<◌, ◌≤◌}
+use Prim.Native.Nat.{ℕ, zero, suc, ◌+◌, ◌-◌, ◌*◌, ◌<◌, ◌≤◌, min, max}
 use mathlib.Core.Path.{◌≡◌, refl, ap, sym, ◌∙◌}
 use mathlib.Core.Bool.{true, false, cond}
 use mathlib.Core.List.{List, [], ◌∷◌, ◌++◌}
 use native.Mathlib.Omega.{arith}
 use native.Mathlib.Nat.{zero-add, suc-add, add-zero}
 use native.Mathlib.Numerals.{add-one}
-use borrow.Author.Tests.{lt-ltb, le-ltb, le-leb, lt-leb, ltb-true, ltb-false, leb-true, leb-false, eqb-true}
-use lib.Dec.{ltb, leb, eqb}
-use lib.ListN.{length, get_or, replicate, length-replicate}
-use Rattle.refusal.specs.Numbers.{fine, symbol_out, first_refusal}
+use borrow.Author.Tests.{lt-ltb, le-ltb, le-leb, lt-leb, ltb-true, ltb-false, leb-true, leb-false}
+use lib.Dec.{ltb, leb}
+use lib.ListN.{length, get_or, take, drop, replicate, length-replicate, length-drop}
+use lib.Seq.{get_or-take, get_or-drop, length-take-le}
+use Rattle.std.specs.Prelude.{⊤, Ok, Err}
+use Rattle.refusal.specs.Answers.{OrRefused, fine, checked}
+use Rattle.refusal.specs.declared.Refusal.TheVariants.{SymbolOut}
 use Rattle.writing.specs.Lay.{Laid}
 use Rattle.frame.proofs.HexLaws.{by_test}
 use Rattle.writing.proofs.LayLaws.{laid_as, laid_then, laid_room, Rest, rest_put, rest_room}
@@ -74,30 +77,32 @@ unfolding highest
 highest_end most s i end h = let e : end - i ≡ 0 = omega arith in rw e
 
 -- one of two is outside where the higher is
-higher_out : (size a b n : ℕ) → cond (leb size (higher a b)) symbol_out n ≡ cond (leb size a) symbol_out (cond (leb size b) symbol_out n)
+higher_out : (size a b : ℕ) (n : OrRefused ⊤) → cond (leb size (higher a b)) (Err SymbolOut) n ≡ cond (leb size a) (Err SymbolOut) (cond (leb size b) (Err SymbolOut) n)
 unfolding higher
 higher_out size a b n =
     by_test (ltb a b)
     (λ t. by_test (leb size a) (λ u. simp (t, u, le-leb size b (omega (arith, ltb-true a b t, leb-true size a u)))) (λ u. simp (t, u)))
     (λ t. by_test (leb size a) (λ u. simp (t, u)) (λ u. simp (t, u, lt-leb size b (omega (arith, ltb-false a b t, leb-false size a u)))))
 
-highest_out : (alphabet most : ℕ) (s : List ℕ) (at n : ℕ) → cond (leb (size_of alphabet) (highest most s at n)) symbol_out fine ≡ cond (leb (size_of alphabet) most) symbol_out (symbols_refusal alphabet s at n)
+highest_out : (alphabet most : ℕ) (s : List ℕ) (at n : ℕ) → cond (leb (size_of alphabet) (highest most s at n)) (Err SymbolOut) fine ≡ cond (leb (size_of alphabet) most) (Err SymbolOut) (symbols_refusal alphabet s at n)
 unfolding highest symbols_refusal
 highest_out alphabet most s at zero = refl
 highest_out alphabet most s at (suc n) = highest_out alphabet (higher most (get_or s at 0)) s (at + 1) n ∙ higher_out (size_of alphabet) most (get_or s at 0) (symbols_refusal alphabet s (at + 1) n)
 
 -- one of the symbols is outside the alphabet where the highest is
-pub symbols_highest : (alphabet : ℕ) (s : List ℕ) (at n : ℕ) → symbols_refusal alphabet s at n ≡ cond (leb (size_of alphabet) (highest 0 s at n)) symbol_out fine
+pub symbols_highest : (alphabet : ℕ) (s : List ℕ) (at n : ℕ) → symbols_refusal alphabet s at n ≡ cond (leb (size_of alphabet) (highest 0 s at n)) (Err SymbolOut) fine
 symbols_highest alphabet s at n =
     rw (highest_out alphabet 0 s at n, lt-leb (size_of alphabet) 0 (omega (arith, code_of_n_inside alphabet)))
 
 -- ---- the first of two refusals
 
-pub first_fine : (n : ℕ) → first_refusal n fine ≡ n
-first_fine n = by_test (eqb n fine) (λ t. rw t (sym (eqb-true n fine t))) (λ t. rw t)
+pub first_fine : (n : OrRefused ⊤) → checked n fine ≡ n
+first_fine (Ok t) = refl
+first_fine (Err refusal) = refl
 
-pub first_assoc : (a b c : ℕ) → first_refusal (first_refusal a b) c ≡ first_refusal a (first_refusal b c)
-first_assoc a b c = by_test (eqb a fine) (λ t. simp t) (λ t. simp t)
+pub first_assoc : (a b c : OrRefused ⊤) → checked (checked a b) c ≡ checked a (checked b c)
+first_assoc (Ok t) b c = refl
+first_assoc (Err refusal) b c = refl
 
 -- ---- inside and outside
 
@@ -131,7 +136,7 @@ module _ (alphabet : ℕ) (reference : List ℕ) (first : ℕ) where
   matched_add position zero b = rw (zero-add b, add-zero position)
   matched_add position (suc a) b = let e : position + suc a ≡ position + 1 + a = omega arith in rw (suc-add a b, e, matched_add (position + 1) a b)
 
-  pub match_add : (position a b : ℕ) → match_refusal alphabet reference first position (a + b) ≡ first_refusal (match_refusal alphabet reference first position a) (match_refusal alphabet reference first (position + a) b)
+  pub match_add : (position a b : ℕ) → match_refusal alphabet reference first position (a + b) ≡ checked (match_refusal alphabet reference first position a) (match_refusal alphabet reference first (position + a) b)
   unfolding match_refusal
   match_add position zero b = rw (zero-add b, add-zero position)
   match_add position (suc a) b =
@@ -272,3 +277,32 @@ pub laid_matched : (alphabet : ℕ) (reference : List ℕ) (first position n : �
     → Laid a b at p (replicate before letter_n) → Laid b c p q (letters_at alphabet reference start (end - start)) → Laid c d q z (replicate (n - before - (end - start)) letter_n)
     → Split (length reference) first position n before start end → Laid a d at z (matched_bases alphabet reference first position n)
 laid_matched alphabet reference first position n f g h s = laid_as (sym (matched_split alphabet reference first position n s)) (laid_then (laid_then f g) h)
+
+-- ---- the smaller and the higher of two, as the code has them
+
+pub min_least : (a b : ℕ) → min a b ≡ least a b
+unfolding least
+min_least a b = by_test (ltb a b) (λ t. rw t (omega (arith, ltb-true a b t))) (λ t. rw t (omega (arith, ltb-false a b t)))
+
+pub max_higher : (a b : ℕ) → max a b ≡ higher a b
+unfolding higher
+max_higher a b = by_test (ltb a b) (λ t. rw t (omega (arith, ltb-true a b t))) (λ t. rw t (omega (arith, ltb-false a b t)))
+
+-- the window of a match, as the code comes to it
+pub split_window : (lent first position n : ℕ) {wide gap before start end : ℕ} → wide ≡ first → gap ≡ wide - position → before ≡ min n gap → start ≡ lent_before lent first position → end ≡ lent_before lent first (position + n) → Split lent first position n before start end
+split_window lent first position n {gap = gap} w g q s e = window_split lent first position n (rw w at g) (q ∙ min_least n gap) s e
+
+-- ---- a loop over the symbols from `start` to `end`: each by the place that it has among all
+
+module _ (s : List ℕ) {start end : ℕ} (order : start ≤ end) (room : end ≤ length s) where
+  window_length : length (take (end - start) (drop start s)) ≡ end - start
+  window_length = length-take-le (end - start) (drop start s) (omega (arith, length-drop start s))
+
+  pub window_more : {i : ℕ} → i < length (take (end - start) (drop start s)) → start + i < end
+  window_more h = omega (arith, window_length)
+
+  pub window_over : {i : ℕ} → length (take (end - start) (drop start s)) ≤ i → end ≤ start + i
+  window_over h = omega (arith, window_length)
+
+  pub window_symbol : {i : ℕ} → i < length (take (end - start) (drop start s)) → get_or (take (end - start) (drop start s)) i 0 ≡ get_or s (start + i) 0
+  window_symbol {i} h = get_or-take (end - start) (drop start s) i 0 (omega (arith, window_more h)) ∙ get_or-drop start s i 0

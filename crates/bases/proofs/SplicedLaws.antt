@@ -9,7 +9,7 @@ use native.Mathlib.Nat.{sub-zero}
 use borrow.Author.Tests.{ltb-true, ltb-false}
 use lib.Dec.{ltb}
 use lib.ListN.{length, get_or, length-append, get_or-append}
-use Rattle.refusal.specs.Numbers.{fine}
+use Rattle.refusal.specs.Answers.{fine}
 use Rattle.frame.specs.Hex.{Bytes}
 use Rattle.frame.proofs.HexLaws.{by_test, bytes_append}
 use Rattle.alphabet.specs.Table35.{size_of, letter_of}

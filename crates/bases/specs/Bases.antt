@@ -1,7 +1,7 @@
 -- The bases of a read (10.6.1; document 01, Building a read): pointer R and pointer r over the edits, and the soft-clipped bases on both sides.
 -- Assumes nothing.
-use Rattle.std.specs.Prelude.{ℕ, zero, suc, ◌+◌, ◌-◌, cond, List, [], ◌∷◌, ◌++◌, eqb, get_or}
-use Rattle.refusal.specs.Numbers.{first_refusal}
+use Rattle.std.specs.Prelude.{ℕ, zero, suc, ◌+◌, ◌-◌, cond, List, [], ◌∷◌, ◌++◌, eqb, get_or, ⊤}
+use Rattle.refusal.specs.Answers.{OrRefused, checked}
 use Rattle.alphabet.specs.Table35.{letter_of}
 use Rattle.edits.specs.declared.edit.Edit.{Edit}
 use Rattle.edits.specs.declared.Block.{Block}
@@ -67,10 +67,10 @@ bases_from alphabet reference first mapped p (e ∷ es) =
     ++ bases_from alphabet reference first mapped (past_edit e p) es
 
 -- refusal 10 of the reference: a lent byte outside the alphabet that stands under a match
-unfoldable pub refusal_from : (alphabet : ℕ) (reference : List ℕ) (first mapped : ℕ) → Places → List Edit → ℕ
+unfoldable pub refusal_from : (alphabet : ℕ) (reference : List ℕ) (first mapped : ℕ) → Places → List Edit → OrRefused ⊤
 refusal_from alphabet reference first mapped p [] = match_refusal alphabet reference first (R p) (mapped - r p)
 refusal_from alphabet reference first mapped p (e ∷ es) =
-    first_refusal (match_refusal alphabet reference first (R p) (e.offset - r p))
+    checked (match_refusal alphabet reference first (R p) (e.offset - r p))
     (refusal_from alphabet reference first mapped (past_edit e p) es)
 
 -- ---- the whole read
@@ -81,7 +81,7 @@ letters_at alphabet symbols at zero = []
 letters_at alphabet symbols at (suc n) = letter_of alphabet (get_or symbols at 0) ∷ letters_at alphabet symbols (at + 1) n
 
 -- refusal 10 of the reference under a segment's edits, which stand in the frame from a place on
-abbrev pub reference_refusal : (class alphabet : ℕ) (frame reference : List ℕ) (first position mapped count place : ℕ) → ℕ
+abbrev pub reference_refusal : (class alphabet : ℕ) (frame reference : List ℕ) (first position mapped count place : ℕ) → OrRefused ⊤
 reference_refusal class alphabet frame reference first position mapped count place =
     refusal_from alphabet reference first mapped (beginning position) (edit_list_at class alphabet frame count place)
 

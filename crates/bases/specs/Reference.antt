@@ -1,7 +1,8 @@
 -- The lent reference (document 01, Lines: 07 reference): its bases from the position `first` on, and N where it is missing (10.2.2).
 -- Assumes nothing.
-use Rattle.std.specs.Prelude.{ℕ, zero, suc, ◌+◌, ◌-◌, Bool, false, cond, List, [], ◌∷◌, ltb, leb, length, get_or}
-use Rattle.refusal.specs.Numbers.{fine, symbol_out, first_refusal}
+use Rattle.std.specs.Prelude.{ℕ, zero, suc, ◌+◌, ◌-◌, Bool, false, cond, List, [], ◌∷◌, ltb, leb, length, get_or, ⊤, Err}
+use Rattle.refusal.specs.Answers.{OrRefused, fine, checked}
+use Rattle.refusal.specs.declared.Refusal.TheVariants.{SymbolOut}
 use Rattle.alphabet.specs.Table35.{letter_n, size_of, letter_of}
 
 -- a position inside the lent reference: from that of its first base on, as many as there are bases
@@ -18,10 +19,10 @@ base_at alphabet reference first position =
     cond (is_lent reference first position) (letter_of alphabet (lent_symbol reference first position)) letter_n
 
 -- refusal 10 at a position: a lent byte outside the alphabet. A padded base is never refused
-unfoldable pub base_refusal : (alphabet : ℕ) (reference : List ℕ) (first position : ℕ) → ℕ
+unfoldable pub base_refusal : (alphabet : ℕ) (reference : List ℕ) (first position : ℕ) → OrRefused ⊤
 base_refusal alphabet reference first position =
     cond (is_lent reference first position)
-    (cond (leb (size_of alphabet) (lent_symbol reference first position)) symbol_out fine)
+    (cond (leb (size_of alphabet) (lent_symbol reference first position)) (Err SymbolOut) fine)
     fine
 
 -- the bases of n positions, from a position on
@@ -31,7 +32,7 @@ matched_bases alphabet reference first position (suc n) =
     base_at alphabet reference first position ∷ matched_bases alphabet reference first (position + 1) n
 
 -- refusal 10 of n positions, from a position on
-unfoldable pub match_refusal : (alphabet : ℕ) (reference : List ℕ) (first position n : ℕ) → ℕ
+unfoldable pub match_refusal : (alphabet : ℕ) (reference : List ℕ) (first position n : ℕ) → OrRefused ⊤
 match_refusal alphabet reference first position zero = fine
 match_refusal alphabet reference first position (suc n) =
-    first_refusal (base_refusal alphabet reference first position) (match_refusal alphabet reference first (position + 1) n)
+    checked (base_refusal alphabet reference first position) (match_refusal alphabet reference first (position + 1) n)

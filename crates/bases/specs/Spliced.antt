@@ -1,6 +1,7 @@
 -- The bases of a read over introns (document 02, Wish 1): those of its pieces one after the other, and the soft-clipped bases on both sides.
 -- Assumes nothing.
-use Rattle.std.specs.Prelude.{ℕ, ◌+◌, List, [], ◌∷◌, ◌++◌}
+use Rattle.std.specs.Prelude.{ℕ, ◌+◌, List, [], ◌∷◌, ◌++◌, ⊤}
+use Rattle.refusal.specs.Answers.{OrRefused}
 use Rattle.edits.specs.Pieces.{Piece, begins_at}
 use Rattle.bases.specs.declared.places.Places.{Places}
 use Rattle.bases.specs.Bases.{pointers, bases_from, refusal_from, letters_at}
@@ -14,7 +15,7 @@ abbrev pub piece_bases : (alphabet : ℕ) (reference : List ℕ) (first : ℕ) �
 piece_bases alphabet reference first p = bases_from alphabet reference first p.until (piece_beginning p) p.edits
 
 -- refusal 10 of the reference under a piece's matches; what lies between two pieces is an intron, and is not looked at
-abbrev pub piece_refusal : (alphabet : ℕ) (reference : List ℕ) (first : ℕ) → Piece → ℕ
+abbrev pub piece_refusal : (alphabet : ℕ) (reference : List ℕ) (first : ℕ) → Piece → OrRefused ⊤
 piece_refusal alphabet reference first p = refusal_from alphabet reference first p.until (piece_beginning p) p.edits
 
 -- the mapped bases of a read: an intron brings none

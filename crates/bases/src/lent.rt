@@ -4,73 +4,51 @@ ghost use Rattle.writing.specs.Lay.{Laid};
 ghost use Rattle.alphabet.specs.Table35.{letter_n};
 ghost use Rattle.bases.specs.Reference.{matched_bases, match_refusal};
 ghost use Rattle.bases.specs.Bases.{R, r};
-ghost use Rattle.bases.specs.Code.Helpers.{least as leastOf, higher as higherOf, highest as highestOf, lent_before, symbols_refusal, farthest};
+ghost use Rattle.bases.specs.Code.Helpers.{highest as highestOf, lent_before, symbols_refusal, farthest};
 
 use crate::letters::put_letters;
 use crate::places::Places;
+use refusal::Refusal;
 use writing::lay::put_byte;
-
-fn wide(b: u8) -> u32
-    ensures { result ≡ b }
-{
-    b as u32
-}
-
-// The smaller of two numbers.
-pub(crate) fn least(a: u64, b: u64) -> u64
-    ensures { result ≡ leastOf a b }
-{
-    if a < b { a } else { b }
-}
-
-// How far it is from one place to another; 0 where the other stands before it.
-pub(crate) fn between(from: u64, to: u64) -> u64
-    ensures { result ≡ to - from }
-{
-    if to < from { 0 } else { to - from }
-}
 
 // How many of the lent bases stand before a position: where a run that starts or ends there is clipped.
 fn lent_before(lent: usize, first: u32, position: u64) -> usize
     ensures { result ≡ lent_before lent first position }
 {
-    least(between(first as u64, position), lent as u64) as usize
-}
-
-// The higher of two symbols.
-fn higher(a: u8, b: u8) -> u8
-    ensures { result ≡ higherOf a b }
-{
-    if a < b { b } else { a }
+    position.saturating_sub(u64::from(first)).min(lent as u64) as usize
 }
 
 // The highest symbol from `start` to `end`. Every one is looked at, with no way out before the last, so that many are looked at at once.
 fn highest(symbols: &[u8], start: usize, end: usize) -> u8
-    requires { end ≤ length symbols.now }
+    requires { (start ≤ end) × (end ≤ length symbols.now) }
     ensures { result ≡ highestOf 0 symbols.now start (end - start) }
 {
     let mut most: u8 = 0;
-    let mut i = start;
-    while i < end {
-        most = higher(most, symbols[i]);
-        i += 1;
+    for symbol in &symbols[start..end] {
+        most = most.max(*symbol);
     }
     most
 }
 
 // Refusal 10 of the lent bases from `start` to `end`.
-fn check_lent(reference: &[u8], alphabet: u32, start: usize, end: usize) -> u32
-    requires { end ≤ length reference.now }
+fn check_lent(reference: &[u8], alphabet: u32, start: usize, end: usize) -> Result<(), Refusal>
+    requires { (start ≤ end) × (end ≤ length reference.now) }
     ensures { result ≡ symbols_refusal alphabet reference.now start (end - start) }
 {
-    if alphabet::size(alphabet) <= wide(highest(reference, start, end)) {
-        return refusal::SYMBOL_OUT;
+    if alphabet::size(alphabet) <= u32::from(highest(reference, start, end)) {
+        return Err(Refusal::SymbolOut);
     }
-    refusal::FINE
+    Ok(())
 }
 
 // Refusal 10 of so many positions, from a position on.
-pub(crate) fn check_range(reference: &[u8], first: u32, alphabet: u32, position: u64, n: u64) -> u32
+pub(crate) fn check_range(
+    reference: &[u8],
+    first: u32,
+    alphabet: u32,
+    position: u64,
+    n: u64,
+) -> Result<(), Refusal>
     requires { (position ≤ farthest) × (n < 2 ^ 32) }
     ensures { result ≡ match_refusal alphabet reference.now first position n }
 {
@@ -80,7 +58,13 @@ pub(crate) fn check_range(reference: &[u8], first: u32, alphabet: u32, position:
 }
 
 // Refusal 10 of a match from both pointers up to a place of the read.
-pub(crate) fn check_match(reference: &[u8], first: u32, alphabet: u32, p: Places, to: u32) -> u32
+pub(crate) fn check_match(
+    reference: &[u8],
+    first: u32,
+    alphabet: u32,
+    p: Places,
+    to: u32,
+) -> Result<(), Refusal>
     requires { R p ≤ farthest }
     ensures { result ≡ match_refusal alphabet reference.now first (R p) (to - r p) }
 {
@@ -95,10 +79,8 @@ fn put_padding(out: &mut [u8], at: usize, count: u64) -> usize
     ensures { Laid out.old out.new at result (replicate count letter_n) }
 {
     let mut next = at;
-    let mut left = count;
-    while 0 < left {
+    for _ in 0..count {
         next = put_byte(out, next, b'N');
-        left -= 1;
     }
     next
 }
@@ -122,7 +104,7 @@ pub(crate) fn put_matched(
         return at;
     }
     let from = p.reference;
-    let before = least(n, between(from.0, first as u64));
+    let before = n.min(u64::from(first).saturating_sub(from.0));
     let start = lent_before(reference.len(), first, from.0);
     let end = lent_before(reference.len(), first, from.0 + n);
     let behind = n - before - (end - start) as u64;

@@ -31,10 +31,8 @@ fn put_fives(out: &mut [u8], at: usize, symbols: &[u8], start: usize, end: usize
     ensures { Laid out.old out.new at result (letters_at 0 symbols.now start (end - start)) }
 {
     let mut next = at;
-    let mut i = start;
-    while i < end {
-        next = put_five(out, next, symbols[i]);
-        i += 1;
+    for symbol in &symbols[start..end] {
+        next = put_five(out, next, *symbol);
     }
     next
 }
@@ -53,10 +51,8 @@ fn put_sixteens(
 {
     let table = alphabet::digits(alphabet);
     let mut next = at;
-    let mut i = start;
-    while i < end {
-        next = put_letter(out, next, &table, symbols[i]);
-        i += 1;
+    for symbol in &symbols[start..end] {
+        next = put_letter(out, next, &table, *symbol);
     }
     next
 }

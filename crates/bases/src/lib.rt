@@ -8,7 +8,7 @@ mod places;
 ghost use Rattle.std.specs.Prelude.{◌≡◌, true, ◌++◌, ◌+◌, ◌-◌, ◌*◌, ◌≤◌, length};
 ghost use Rattle.writing.specs.Lay.{Laid};
 ghost use Rattle.alphabet.specs.Code.Digits.{digits_of};
-ghost use Rattle.edits.specs.Edits.{width_of, edit_list_at};
+ghost use Rattle.edits.specs.Edits.{width_of, edit_at, edit_list_at};
 ghost use Rattle.edits.specs.Code.Runs.{substitutes_only};
 ghost use Rattle.edits.specs.Lengths.{soft_bases};
 ghost use Rattle.bases.specs.Reference.{matched_bases, match_refusal};
@@ -21,16 +21,23 @@ use crate::places::Places;
 use alphabet::letter::put_letter;
 use edits::edit::{Edit, edit_at, substitutes, substitution_at, width};
 use edits::{Block, Run, run_of};
+use refusal::Refusal;
 
-// Refusal 10 where a lent byte outside the alphabet stands at one of so many positions, else 0.
+// Refusal 10 where a lent byte outside the alphabet stands at one of so many positions.
 // This is looked at before the matches one by one, since nearly every reference has no such byte.
-pub fn check_positions(reference: &[u8], first: u32, alphabet: u32, position: u32, n: u32) -> u32
+pub fn check_positions(
+    reference: &[u8],
+    first: u32,
+    alphabet: u32,
+    position: u32,
+    n: u32,
+) -> Result<(), Refusal>
     ensures { result ≡ match_refusal alphabet reference.now first position n }
 {
     check_range(reference, first, alphabet, position as u64, n as u64)
 }
 
-// Refusal 10 where a lent byte outside the alphabet stands under a match of a run, else 0.
+// Refusal 10 where a lent byte outside the alphabet stands under a match of a run.
 pub fn check_reference(
     reference: &[u8],
     first: u32,
@@ -39,7 +46,7 @@ pub fn check_reference(
     frame: &[u8],
     class: u32,
     run: Run,
-) -> u32
+) -> Result<(), Refusal>
     requires { run.edits_at + run.edits * width_of class ≤ length frame.now }
     ensures { result ≡ reference_refusal class alphabet frame.now reference.now first position run.mapped run.edits run.edits_at }
 {
@@ -56,23 +63,18 @@ pub fn check_piece(
     frame: &[u8],
     class: u32,
     run: Run,
-) -> u32
+) -> Result<(), Refusal>
     requires { run.edits_at + run.edits * width_of class ≤ length frame.now }
     ensures { result ≡ refusal_from alphabet reference.now first run.mapped (pointers position start) (edit_list_at class alphabet frame.now run.edits run.edits_at) }
 {
     let step = width(class);
     let mut at = run.edits_at;
     let mut p = Places::at(position, start);
-    let mut left = run.edits;
-    while 0 < left {
+    for _ in 0..run.edits {
         let e = edit_at(frame, class, alphabet, at);
-        let no = check_match(reference, first, alphabet, p, e.offset as u32);
-        if no != refusal::FINE {
-            return no;
-        }
+        check_match(reference, first, alphabet, p, e.offset as u32)?;
         p = p.past_edit(e);
         at += step;
-        left -= 1;
     }
     check_match(reference, first, alphabet, p, run.mapped)
 }
@@ -100,41 +102,21 @@ fn put_edit(
     put_letter(out, next, table, e.symbol)
 }
 
-// The bases of a read's edits, each with the match before it, then of the match behind the last.
-fn put_edits(
-    out: &mut [u8],
-    at: usize,
-    reference: &[u8],
-    first: u32,
-    alphabet: u32,
-    position: u32,
-    start: u32,
-    frame: &[u8],
-    class: u32,
-    run: Run,
-) -> usize
-    requires class_in_bounds { run.edits_at + run.edits * width_of class ≤ length frame.now }
-    requires edits_at_in_bounds { at + 2 * length (bases_from alphabet reference.now first run.mapped (pointers position start) (edit_list_at class alphabet frame.now run.edits run.edits_at)) ≤ length out.old }
-    ensures { Laid out.old out.new at result (bases_from alphabet reference.now first run.mapped (pointers position start) (edit_list_at class alphabet frame.now run.edits run.edits_at)) }
+// The edit at a place of the frame. In the walk of substitutions the compiler sees that none is an insertion or a deletion.
+fn edit_of<const SUBSTITUTES: bool>(frame: &[u8], class: u32, alphabet: u32, at: usize) -> Edit
+    requires { (SUBSTITUTES ≡ true → substitutes_only class ≡ true) × (at + width_of class ≤ length frame.now) }
+    ensures { result ≡ edit_at class alphabet frame.now at }
 {
-    let table = alphabet::digits(alphabet);
-    let step = width(class);
-    let mut here = run.edits_at;
-    let mut p = Places::at(position, start);
-    let mut next = at;
-    let mut left = run.edits;
-    while 0 < left {
-        let e = edit_at(frame, class, alphabet, here);
-        next = put_edit(out, next, reference, first, alphabet, &table, p, e);
-        p = p.past_edit(e);
-        here += step;
-        left -= 1;
+    if SUBSTITUTES {
+        return substitution_at(frame, class, alphabet, at);
     }
-    put_matched(out, next, reference, first, alphabet, p, run.mapped)
+    edit_at(frame, class, alphabet, at)
 }
 
-// The same for a piece of a read over introns: a walk of its own, so that the one above is called from one place (docs/BENCHMARK.md).
-fn put_piece_edits(
+// The bases of a read's edits, each with the match before it, then of the match behind the last.
+// The three walks (of a read whose edits all are substitutions, of another, and of a piece of a read over introns) each have a copy that is
+// called from one place, so that the compiler lays it there (docs/BENCHMARK.md).
+fn put_edits<const SUBSTITUTES: bool, const PIECE: bool>(
     out: &mut [u8],
     at: usize,
     reference: &[u8],
@@ -146,6 +128,7 @@ fn put_piece_edits(
     class: u32,
     run: Run,
 ) -> usize
+    requires substitutes_value { SUBSTITUTES ≡ true → substitutes_only class ≡ true }
     requires class_in_bounds { run.edits_at + run.edits * width_of class ≤ length frame.now }
     requires edits_at_in_bounds { at + 2 * length (bases_from alphabet reference.now first run.mapped (pointers position start) (edit_list_at class alphabet frame.now run.edits run.edits_at)) ≤ length out.old }
     ensures { Laid out.old out.new at result (bases_from alphabet reference.now first run.mapped (pointers position start) (edit_list_at class alphabet frame.now run.edits run.edits_at)) }
@@ -155,13 +138,11 @@ fn put_piece_edits(
     let mut here = run.edits_at;
     let mut p = Places::at(position, start);
     let mut next = at;
-    let mut left = run.edits;
-    while 0 < left {
-        let e = edit_at(frame, class, alphabet, here);
+    for _ in 0..run.edits {
+        let e = edit_of::<SUBSTITUTES>(frame, class, alphabet, here);
         next = put_edit(out, next, reference, first, alphabet, &table, p, e);
         p = p.past_edit(e);
         here += step;
-        left -= 1;
     }
     put_matched(out, next, reference, first, alphabet, p, run.mapped)
 }
@@ -187,41 +168,9 @@ pub fn write_piece(
         let p = Places::at(position, start);
         return put_matched(out, at, reference, first, alphabet, p, run.mapped);
     }
-    put_piece_edits(
+    put_edits::<false, true>(
         out, at, reference, first, alphabet, position, start, frame, class, run,
     )
-}
-
-// The same of a read without splices where every edit is a substitution: a loop of its own, in which the compiler sees that none is an insertion or a deletion.
-fn put_substitutions(
-    out: &mut [u8],
-    at: usize,
-    reference: &[u8],
-    first: u32,
-    alphabet: u32,
-    pos: u32,
-    frame: &[u8],
-    class: u32,
-    run: Run,
-) -> usize
-    requires class_value { (substitutes_only class ≡ true) × (run.edits_at + run.edits * width_of class ≤ length frame.now) }
-    requires edits_at_in_bounds { at + 2 * length (mapped_bases class alphabet frame.now reference.now first pos run.mapped run.edits run.edits_at) ≤ length out.old }
-    ensures { Laid out.old out.new at result (mapped_bases class alphabet frame.now reference.now first pos run.mapped run.edits run.edits_at) }
-{
-    let table = alphabet::digits(alphabet);
-    let step = width(class);
-    let mut here = run.edits_at;
-    let mut p = Places::beginning(pos);
-    let mut next = at;
-    let mut left = run.edits;
-    while 0 < left {
-        let e = substitution_at(frame, class, alphabet, here);
-        next = put_edit(out, next, reference, first, alphabet, &table, p, e);
-        p = p.past_edit(e);
-        here += step;
-        left -= 1;
-    }
-    put_matched(out, next, reference, first, alphabet, p, run.mapped)
 }
 
 // The bases of a read without splices, from its first mapped base on. One with no edits is one match, and takes no table.
@@ -245,9 +194,11 @@ fn put_run(
         return put_matched(out, at, reference, first, alphabet, p, run.mapped);
     }
     if substitutes(class) {
-        return put_substitutions(out, at, reference, first, alphabet, pos, frame, class, run);
+        return put_edits::<true, false>(
+            out, at, reference, first, alphabet, pos, 0, frame, class, run,
+        );
     }
-    put_edits(
+    put_edits::<false, false>(
         out, at, reference, first, alphabet, pos, 0, frame, class, run,
     )
 }

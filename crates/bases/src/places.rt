@@ -3,7 +3,6 @@ ghost use Rattle.std.specs.Prelude.{◌≡◌, ◌+◌, ◌-◌, ◌^◌, ◌<�
 ghost use Rattle.bases.specs.Bases.{R, r, pointers, beginning, past_match, past_substitution, past_insertion, past_deletion, past_edit};
 ghost use Rattle.bases.specs.Code.Helpers.{farthest};
 
-use crate::lent::between;
 use edits::edit::Edit;
 
 // A position of the reference. It may lie behind the last position that 32 bits hold.
@@ -43,7 +42,7 @@ impl Places {
         ensures { result ≡ to - r self }
     {
         let read = self.read;
-        between(read.0 as u64, to as u64)
+        u64::from(to).saturating_sub(u64::from(read.0))
     }
 
     // A match moves both.

@@ -5,7 +5,10 @@ use mathlib.Core.List.{List}
 use Prim.Native.Nat.{ℕ, ◌-◌, ◌<◌, ◌≤◌}
 use native.Mathlib.Omega.{arith}
 use borrow.Author.Tests.{lt-ltb, le-ltb}
-use Rattle.refusal.specs.Numbers.{fine, Early}
+use Rattle.std.specs.Prelude.{Ok, Err}
+use Rattle.refusal.specs.Answers.{OrRefused}
+use Rattle.refusal.specs.declared.Refusal.{Refusal}
+use Rattle.frame.specs.Field.{Field, after_field}
 use Rattle.frame.specs.declared.field.Cursor.{Cursor}
 use Rattle.unit.specs.Unit.{class_i}
 use Rattle.state.specs.State.{Shaped, taken}
@@ -13,20 +16,16 @@ use Rattle.state.specs.Listed.{words_at}
 use Rattle.state.specs.declared.State.{State}
 use Rattle.state.proofs.HeadLaws.{length_words_at}
 use Rattle.taking.specs.Steps.{Steps, sets, refuses, Came, came, stopped, decode}
-use Rattle.taking.proofs.Decoding.{decode_tells, then_goes, then_stops, then_came}
+use Rattle.taking.proofs.Decoding.{then_goes, then_stops, then_came}
 use Rattle.edits.specs.Pieces.{SignedPosition, straight}
 use Rattle.splices.specs.Table62.{spliced_seg_mapping_pos}
 use Rattle.splices.specs.Code.Taken.{symbols_moved, splice_turns}
 use Rattle.splices.specs.Located.{positions_from, unspliced, lengths_in, first_mapping}
-use Rattle.splices.specs.declared.take.SymbolsMoved.{SymbolsMoved}
 use Rattle.splices.proofs.TakenLaws.{turns_moved}
 use Rattle.splices.proofs.MappingLaws.{positions_found}
-use Rattle.block.specs.Checked.{length_at, rcomp_at, number_at, lengths_at, after_checked}
+use Rattle.block.specs.Checked.{length_at, rcomp_at, number_at, lengths_at}
 use Rattle.block.specs.Head.{splices_at, splice_steps, from_lengths, from_pieces, from_rcomp, head_at, head_moved}
 use Rattle.block.specs.declared.head.BlockHead.{BlockHead}
-use Rattle.block.specs.declared.checked.CheckedField.{CheckedField}
-use Rattle.block.specs.declared.checked.CheckedField.TheVariants.{Value, Refused}
-use Rattle.block.proofs.RefusalLaws.{positions_early}
 
 -- ---- the code takes so many turns, wherever the read maps
 
@@ -37,32 +36,33 @@ module _ (symbols counts : List ℕ) (st : State) (frame : List ℕ) (position r
   abbrev head_here : BlockHead
   head_here = record { length = readLength; rcomp = rcomp; splices = splices_at count lengths_at st; next = next }
 
-  module _ (m : SymbolsMoved) (is : m ≡ symbols_moved st (decode symbols counts st (splice_turns (count - 1)))) where
-    same_moved : m ≡ symbols_moved st (decode symbols counts st position_steps)
+  module _ (m : OrRefused State) (is : m ≡ symbols_moved (decode symbols counts st (splice_turns (count - 1)))) where
+    same_moved : m ≡ symbols_moved (decode symbols counts st position_steps)
     same_moved =
         is
-        ∙ sym (turns_moved symbols counts st (straight position) (words_at count frame lengths_at) st ∙ ap (λ (k : ℕ). symbols_moved st (decode symbols counts st (splice_turns (k - 1)))) (length_words_at count frame lengths_at))
+        ∙ sym (turns_moved symbols counts (straight position) (words_at count frame lengths_at) st ∙ ap (λ (k : ℕ). symbols_moved (decode symbols counts st (splice_turns (k - 1)))) (length_words_at count frame lengths_at))
 
-    pub splices_refused : (m.refusal ≡ fine → ⊥) → head_moved st (stopped m.refusal) ≡ head_moved st (decode symbols counts st (splice_steps frame position readLength rcomp count lengths_at next))
+    pub splices_refused : (n : Refusal) → m ≡ Err n → Err n ≡ head_moved (decode symbols counts st (splice_steps frame position readLength rcomp count lengths_at next))
     unfolding splice_steps decode
-    splices_refused never = by (decode symbols counts st position_steps) refl same_moved
+    splices_refused n z = by (decode symbols counts st position_steps) refl (sym z ∙ same_moved)
       where
-        by : (x : Came (List SignedPosition)) → decode symbols counts st position_steps ≡ x → m ≡ symbols_moved st x
-            → head_moved st (stopped m.refusal) ≡ head_moved st (decode symbols counts st (splice_steps frame position readLength rcomp count lengths_at next))
-        by (came ps middle) d e = absurd (never (ap (λ (y : SymbolsMoved). y.refusal) e))
-        by (stopped n) d e = ap (λ (k : ℕ). head_moved st (stopped k)) (ap (λ (y : SymbolsMoved). y.refusal) e) ∙ sym (ap (head_moved st) (then_stops symbols counts position_steps (λ positions. sets head_here) st n d))
+        by : (x : Came (List SignedPosition)) → decode symbols counts st position_steps ≡ x → ◌≡◌ {A = OrRefused State} (Err n) (symbols_moved x)
+            → Err n ≡ head_moved (decode symbols counts st (splice_steps frame position readLength rcomp count lengths_at next))
+        by (came ps middle) d e = absurd (let w : ◌≡◌ {A = ℕ} 0 1 = cc in omega arith)
+        by (stopped k) d e =
+            let same : n ≡ k = cc in
+            rw same (sym (ap head_moved (then_stops symbols counts position_steps (λ positions. sets head_here) st k d)))
 
-    pub splices_whole : m.refusal ≡ fine → head_moved m.state (came head_here m.state) ≡ head_moved st (decode symbols counts st (splice_steps frame position readLength rcomp count lengths_at next))
+    pub splices_whole : (behind : State) → m ≡ Ok behind → Ok (head_here, behind) ≡ head_moved (decode symbols counts st (splice_steps frame position readLength rcomp count lengths_at next))
     unfolding splice_steps decode
-    splices_whole z = by (decode symbols counts st position_steps) refl same_moved
+    splices_whole behind z = by (decode symbols counts st position_steps) refl (sym z ∙ same_moved)
       where
-        by : (x : Came (List SignedPosition)) → decode symbols counts st position_steps ≡ x → m ≡ symbols_moved st x
-            → head_moved m.state (came head_here m.state) ≡ head_moved st (decode symbols counts st (splice_steps frame position readLength rcomp count lengths_at next))
-        by (came ps middle) d e = ap (λ (s : State). head_moved s (came head_here s)) (ap (λ (y : SymbolsMoved). y.state) e) ∙ sym (ap (head_moved st) (then_goes symbols counts position_steps (λ positions. sets head_here) st ps middle d))
-        by (stopped n) d e =
-            let told : Early n = decode_tells symbols counts Early position_steps st (positions_early (straight position) (words_at count frame lengths_at)) n d in
-            let none : n ≡ fine = sym (ap (λ (y : SymbolsMoved). y.refusal) e) ∙ z in
-            absurd (omega (arith, told.0.0))
+        by : (x : Came (List SignedPosition)) → decode symbols counts st position_steps ≡ x → ◌≡◌ {A = OrRefused State} (Ok behind) (symbols_moved x)
+            → Ok (head_here, behind) ≡ head_moved (decode symbols counts st (splice_steps frame position readLength rcomp count lengths_at next))
+        by (came ps middle) d e =
+            let same : behind ≡ middle = cc in
+            rw same (sym (ap head_moved (then_goes symbols counts position_steps (λ positions. sets head_here) st ps middle d)))
+        by (stopped k) d e = absurd (let w : ◌≡◌ {A = ℕ} 0 1 = cc in omega arith)
 
 -- ---- a head that is accepted
 
@@ -77,11 +77,11 @@ pub record HeadSpliced (symbols counts frame : List ℕ) (position : ℕ) (st : 
 
 module _ (symbols counts : List ℕ) (st : State) (h : BlockHead) (next : State) where
   -- what follows a checked field that is accepted
-  checked_came : {P : Type 0} (x : CheckedField) (f : ℕ → Cursor → Steps BlockHead) → decode symbols counts st (after_checked refuses x f) ≡ came h next
-      → ((v : ℕ) (c : Cursor) → x ≡ Value v c → decode symbols counts st (f v c) ≡ came h next → P) → P
+  checked_came : {P : Type 0} (x : Field) (f : ℕ → Cursor → Steps BlockHead) → decode symbols counts st (after_field refuses x f) ≡ came h next
+      → ((v : ℕ) (c : Cursor) → x ≡ Ok (v, c) → decode symbols counts st (f v c) ≡ came h next → P) → P
   unfolding decode
-  checked_came (Value v c) f q go = go v c refl q
-  checked_came (Refused n) f q go = absurd (let z : ◌≡◌ {A = ℕ} 0 1 = cc in omega arith)
+  checked_came (Ok (v, c)) f q go = go v c refl q
+  checked_came (Err n) f q go = absurd (let z : ◌≡◌ {A = ℕ} 0 1 = cc in omega arith)
 
   splices_came : (frame : List ℕ) (position readLength rcomp count lengths_at : ℕ) (behind : Cursor)
       → decode symbols counts st (splice_steps frame position readLength rcomp count lengths_at behind) ≡ came h next → HeadSpliced symbols counts frame position st h next

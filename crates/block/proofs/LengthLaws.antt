@@ -1,16 +1,17 @@
 -- The laws of the lengths of a read's pieces: one length more, and what is known where they are accepted.
 -- Assumes nothing.
-use mathlib.Core.Path.{◌≡◌, refl}
+use mathlib.Core.Path.{◌≡◌, refl, ap}
 use mathlib.Core.List.{List, [], ◌∷◌}
 use Prim.Native.Nat.{ℕ, zero, suc, ◌+◌, ◌-◌, ◌*◌, ◌<◌, ◌≤◌}
 use native.Mathlib.Omega.{arith}
 use borrow.Author.Tests.{lt-ltb, le-ltb, ltb-true, ltb-false}
 use lib.Dec.{ltb}
 use lib.ListN.{length}
-use Rattle.refusal.specs.Numbers.{misframed, length_out}
-use Rattle.frame.specs.Field.{big_at, field_at}
+use Rattle.std.specs.Prelude.{Ok, Err}
+use Rattle.refusal.specs.declared.Refusal.{Refusal}
+use Rattle.refusal.specs.declared.Refusal.TheVariants.{LengthOut}
+use Rattle.frame.specs.Field.{Field, big_at, field_at}
 use Rattle.frame.specs.declared.field.Cursor.{Cursor}
-use Rattle.frame.specs.declared.field.Field.TheVariants as frame
 use Rattle.frame.proofs.Tests.{by_test}
 use Rattle.frame.proofs.StepLaws.{past_field, past_refusal, past_match_lem}
 use Rattle.state.specs.Listed.{words_at}
@@ -19,23 +20,22 @@ use Rattle.edits.proofs.PieceLaws.{NoneZero}
 use Rattle.splices.specs.Located.{lengths_in}
 use Rattle.splices.specs.declared.Splices.{Splices}
 use Rattle.splices.proofs.WalkLaws.{length_past}
-use Rattle.block.specs.declared.checked.CheckedField.TheVariants.{Value, Refused}
 use Rattle.block.specs.Checked.{sum_in, lengths_from}
 
 -- ---- a turn of the code's loop
 
 module _ (bytes : List ℕ) (total sum : ℕ) where
-  pub lengths_short : (k at : ℕ) → 0 < k → field_at 2 bytes at ≡ frame.Short → lengths_from bytes total sum k at ≡ Refused misframed
+  pub lengths_short : (k at : ℕ) (n : Refusal) → 0 < k → field_at 2 bytes at ≡ Err n → lengths_from bytes total sum k at ≡ Err n
   unfolding lengths_from
-  lengths_short zero at h e = absurd (omega arith)
-  lengths_short (suc k) at h e = rw e refl
+  lengths_short zero at n h e = absurd (omega arith)
+  lengths_short (suc k) at n h e = rw e refl
 
-  pub lengths_zero : (k at v : ℕ) (next : Cursor) → 0 < k → field_at 2 bytes at ≡ frame.Value v next → v < 1 → lengths_from bytes total sum k at ≡ Refused length_out
+  pub lengths_zero : (k at v : ℕ) (next : Cursor) → 0 < k → field_at 2 bytes at ≡ Ok (v, next) → v < 1 → lengths_from bytes total sum k at ≡ Err LengthOut
   unfolding lengths_from
   lengths_zero zero at v next h e l = absurd (omega arith)
   lengths_zero (suc k) at v next h e l = rw (e, lt-ltb v 1 l) refl
 
-  pub lengths_on : (k at v : ℕ) (next : Cursor) → 0 < k → field_at 2 bytes at ≡ frame.Value v next → 1 ≤ v → lengths_from bytes total sum k at ≡ lengths_from bytes total (sum + v) (k - 1) next.at
+  pub lengths_on : (k at v : ℕ) (next : Cursor) → 0 < k → field_at 2 bytes at ≡ Ok (v, next) → 1 ≤ v → lengths_from bytes total sum k at ≡ lengths_from bytes total (sum + v) (k - 1) next.at
   unfolding lengths_from
   lengths_on zero at v next h e l = absurd (omega arith)
   lengths_on (suc k) at v next h e l = let j : suc k - 1 ≡ k = omega arith in rw (e, le-ltb v 1 l, j) refl
@@ -53,17 +53,18 @@ pub record LengthsGot (bytes : List ℕ) (total sum k at next : ℕ) : Type 0 wh
   pub place : next ≡ at + 2 * k
   pub inside : at ≤ length bytes → next ≤ length bytes
 
-pub lengths_got : (bytes : List ℕ) (total sum k at v : ℕ) (c : Cursor) → lengths_from bytes total sum k at ≡ Value v c → LengthsGot bytes total sum k at c.at
+pub lengths_got : (bytes : List ℕ) (total sum k at v : ℕ) (c : Cursor) → lengths_from bytes total sum k at ≡ Ok (v, c) → LengthsGot bytes total sum k at c.at
 unfolding lengths_from words_at sum_of
 lengths_got bytes total sum zero at v c q =
-    let never : Refused length_out ≡ Value v c → ⊥ = λ e. (let z : ◌≡◌ {A = ℕ} 0 1 = cc in omega arith) in
+    let never : ◌≡◌ {A = Field} (Err LengthOut) (Ok (v, c)) → ⊥ = λ e. (let z : ◌≡◌ {A = ℕ} 0 1 = cc in omega arith) in
     let a = past_match_lem _ never sum total _ q in
-    let p : c.at ≡ at = cc a.1 in
+    let both : ◌≡◌ {A = ℕ × Cursor} (sum, record { at = at }) (v, c) = cc a.1 in
+    let p : at ≡ c.at = ap (λ (x : ℕ × Cursor). x.1.at) both in
     record { adds = omega (arith, a.0); each = λ i h. absurd (omega arith); place = omega arith; inside = λ h. omega arith }
 lengths_got bytes total sum (suc k) at v c q =
-    let never : (n : ℕ) → Refused n ≡ Value v c → ⊥ = λ n e. (let z : ◌≡◌ {A = ℕ} 0 1 = cc in omega arith) in
-    let f = past_field _ (never misframed) 2 bytes at _ q in
-    let a = past_refusal _ (never length_out) (big_at 2 bytes at) 1 _ f.rest in
+    let never : (n : Refusal) → ◌≡◌ {A = Field} (Err n) (Ok (v, c)) → ⊥ = λ n e. (let z : ◌≡◌ {A = ℕ} 0 1 = cc in omega arith) in
+    let f = past_field Err never 2 bytes at _ q in
+    let a = past_refusal _ (never LengthOut) (big_at 2 bytes at) 1 _ f.rest in
     let r = lengths_got bytes total (sum + big_at 2 bytes at) k (at + 2) v c a.1 in
     record { adds = omega (arith, r.adds); each = λ i h. by i h r.each a.0; place = omega (arith, r.place); inside = λ h. r.inside f.fits }
   where

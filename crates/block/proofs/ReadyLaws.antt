@@ -9,8 +9,11 @@ use native.Mathlib.Nat.{add-zero}
 use borrow.Author.Tests.{ltb-true, leb-false, ltb-false, eqb-false}
 use lib.Dec.{ltb, leb, eqb, lit<}
 use lib.ListN.{length, get_or}
-use Rattle.refusal.specs.Numbers.{misframed}
-use Rattle.frame.specs.Field.{big_at}
+use Rattle.std.specs.Prelude.{Ok, Err}
+use Rattle.refusal.specs.Answers.{OrRefused, after_ok}
+use Rattle.refusal.specs.declared.Refusal.{Refusal}
+use Rattle.refusal.specs.declared.Refusal.TheVariants.{LengthOut, ClipsOut, FieldOut}
+use Rattle.frame.specs.Field.{Field, big_at, with_field, after_field}
 use Rattle.frame.specs.declared.field.Cursor.{Cursor}
 use Rattle.frame.proofs.HexLaws.{by_test}
 use Rattle.frame.proofs.FieldLaws.{big_at_lt}
@@ -33,27 +36,20 @@ use Rattle.splices.specs.Located.{unspliced, lengths_in}
 use Rattle.splices.specs.Code.Walk.{Begun}
 use Rattle.splices.specs.declared.Splices.{Splices}
 use Rattle.ecigar.specs.Check.{check_of}
-use Rattle.ecigar.specs.Ecigar.{ecigar_text, clips_length, OfItsClass}
-use Rattle.ecigar.specs.declared.check.EditsChecked.{EditsChecked}
-use Rattle.ecigar.specs.declared.check.EditsChecked.TheVariants as edits
+use Rattle.ecigar.specs.Ecigar.{ecigar_text, OfItsClass}
+use Rattle.ecigar.specs.declared.check.Extent.{Extent}
 use Rattle.ecigar.proofs.CheckLaws.{checked_fine}
 use Rattle.ecigar.proofs.TextLaws.{checked_length}
 use Rattle.ecigar.proofs.LengthLaws.{ClipsFit}
-use Rattle.block.specs.Checked.{length_in, length_at, most_rcomp, rcomp_in, rcomp_at, number_in, number_at, lengths_from, count_in, count_at, after_checked}
+use Rattle.block.specs.Checked.{value_within, length_at, most_rcomp, rcomp_at, number_at, lengths_from, count_at}
 use Rattle.block.specs.Clips.{clips_of, clips_in_read, clips_in_pieces, clips_in, clips_at}
 use Rattle.block.specs.Symbols.{symbols_from}
-use Rattle.block.specs.Aligned.{block_of, block_end, after_edits, edits_tallied, from_edits, from_soft, after_clips, from_clips, aligned_at}
+use Rattle.block.specs.Aligned.{block_of, block_whole, edits_tallied, from_edits, from_soft, from_clips, aligned_at}
 use Rattle.block.specs.Head.{splice_steps, from_lengths, from_pieces, from_rcomp, head_at}
 use Rattle.block.specs.Code.Ready.{LengthsFramed, ReadyHead}
 use Rattle.block.proofs.LengthLaws.{lengths_got, words_none_zero, ends_below}
 use Rattle.block.specs.declared.head.BlockHead.{BlockHead}
-use Rattle.block.specs.declared.checked.CheckedField.{CheckedField}
-use Rattle.block.specs.declared.checked.CheckedField.TheVariants as field
-use Rattle.block.specs.declared.clips.Clipped.{Clipped}
-use Rattle.block.specs.declared.clips.Clipped.TheVariants as clips
 use Rattle.block.specs.declared.aligned.AlignedBlock.{AlignedBlock}
-use Rattle.block.specs.declared.aligned.AlignedRead.{AlignedRead}
-use Rattle.block.specs.declared.aligned.AlignedRead.TheVariants.{Whole, Refused}
 
 -- ---- a checked field that is accepted: its value is within, and the frame has its bytes
 
@@ -63,61 +59,49 @@ pub record FieldGot (frame : List ℕ) (at k least most v next : ℕ) : Type 0 w
   pub place : next ≡ at + k
   pub inside : next ≤ length frame
 
-pub length_got : (frame : List ℕ) (at v : ℕ) (c : Cursor) → length_at frame at ≡ field.Value v c → FieldGot frame at 2 1 most_read v c.at
+field_got : (k least most : ℕ) (refusal : Refusal) (frame : List ℕ) (at v : ℕ) (c : Cursor) → with_field Err k frame at (value_within least most refusal) ≡ Ok (v, c) → FieldGot frame at k least most v c.at
+field_got k least most refusal frame at v c q =
+    let never : (n : Refusal) → ◌≡◌ {A = Field} (Err n) (Ok (v, c)) → ⊥ = λ n e. (let z : ◌≡◌ {A = ℕ} 0 1 = cc in omega arith) in
+    let f = past_field Err never k frame at (λ v c. value_within least most refusal v c.at) q in
+    let a = past_refusal _ (never refusal) (big_at k frame at) least _ f.rest in
+    let b = past_refusal _ (never refusal) most (big_at k frame at) _ a.1 in
+    let both : ◌≡◌ {A = ℕ × Cursor} (big_at k frame at, record { at = at + k }) (v, c) = cc b.1 in
+    let e : big_at k frame at ≡ v = ap (λ (x : ℕ × Cursor). x.0) both in
+    let p : at + k ≡ c.at = ap (λ (x : ℕ × Cursor). x.1.at) both in
+    record { above = omega (arith, a.0); below = omega (arith, b.0); place = sym p; inside = omega (arith, f.fits) }
+
+pub length_got : (frame : List ℕ) (at v : ℕ) (c : Cursor) → length_at frame at ≡ Ok (v, c) → FieldGot frame at 2 1 most_read v c.at
 unfolding length_at
-length_got frame at v c q =
-    let never : (n : ℕ) → field.Refused n ≡ field.Value v c → ⊥ = λ n e. (let z : ◌≡◌ {A = ℕ} 0 1 = cc in omega arith) in
-    let f = past_field _ (never misframed) 2 frame at (λ v c. length_in v c.at) q in
-    let a = past_refusal _ (never 8) (big_at 2 frame at) 1 _ f.rest in
-    let b = past_refusal _ (never 8) most_read (big_at 2 frame at) _ a.1 in
-    let e : v ≡ big_at 2 frame at = cc b.1 in
-    let p : c.at ≡ at + 2 = cc b.1 in
-    record { above = omega (arith, a.0); below = omega (arith, b.0); place = p; inside = omega (arith, f.fits) }
+length_got frame at v c q = field_got 2 1 most_read LengthOut frame at v c q
 
-pub rcomp_got : (class : ℕ) (frame : List ℕ) (at v : ℕ) (c : Cursor) → rcomp_at class frame at ≡ field.Value v c → FieldGot frame at 1 0 (most_rcomp class) v c.at
+pub rcomp_got : (class : ℕ) (frame : List ℕ) (at v : ℕ) (c : Cursor) → rcomp_at class frame at ≡ Ok (v, c) → FieldGot frame at 1 0 (most_rcomp class) v c.at
 unfolding rcomp_at
-rcomp_got class frame at v c q =
-    let never : (n : ℕ) → field.Refused n ≡ field.Value v c → ⊥ = λ n e. (let z : ◌≡◌ {A = ℕ} 0 1 = cc in omega arith) in
-    let f = past_field _ (never misframed) 1 frame at (λ v c. rcomp_in class v c.at) q in
-    let a = past_refusal _ (never 11) (most_rcomp class) (big_at 1 frame at) _ f.rest in
-    let e : v ≡ big_at 1 frame at = cc a.1 in
-    let p : c.at ≡ at + 1 = cc a.1 in
-    record { above = omega arith; below = omega (arith, a.0); place = p; inside = omega (arith, f.fits) }
+rcomp_got class frame at v c q = field_got 1 0 (most_rcomp class) FieldOut frame at v c q
 
-pub number_got : (frame : List ℕ) (at v : ℕ) (c : Cursor) → number_at frame at ≡ field.Value v c → FieldGot frame at 1 1 most_pieces v c.at
+pub number_got : (frame : List ℕ) (at v : ℕ) (c : Cursor) → number_at frame at ≡ Ok (v, c) → FieldGot frame at 1 1 most_pieces v c.at
 unfolding number_at
-number_got frame at v c q =
-    let never : (n : ℕ) → field.Refused n ≡ field.Value v c → ⊥ = λ n e. (let z : ◌≡◌ {A = ℕ} 0 1 = cc in omega arith) in
-    let f = past_field _ (never misframed) 1 frame at (λ v c. number_in v c.at) q in
-    let a = past_refusal _ (never 8) (big_at 1 frame at) 1 _ f.rest in
-    let b = past_refusal _ (never 8) most_pieces (big_at 1 frame at) _ a.1 in
-    let e : v ≡ big_at 1 frame at = cc b.1 in
-    let p : c.at ≡ at + 1 = cc b.1 in
-    record { above = omega (arith, a.0); below = omega (arith, b.0); place = p; inside = omega (arith, f.fits) }
+number_got frame at v c q = field_got 1 1 most_pieces LengthOut frame at v c q
 
-pub count_got : (frame : List ℕ) (at v : ℕ) (c : Cursor) → count_at frame at ≡ field.Value v c → FieldGot frame at 2 0 most_edits v c.at
+pub count_got : (frame : List ℕ) (at v : ℕ) (c : Cursor) → count_at frame at ≡ Ok (v, c) → FieldGot frame at 2 0 most_edits v c.at
 unfolding count_at
-count_got frame at v c q =
-    let never : (n : ℕ) → field.Refused n ≡ field.Value v c → ⊥ = λ n e. (let z : ◌≡◌ {A = ℕ} 0 1 = cc in omega arith) in
-    let f = past_field _ (never misframed) 2 frame at (λ v c. count_in v c.at) q in
-    let a = past_refusal _ (never 11) most_edits (big_at 2 frame at) _ f.rest in
-    let e : v ≡ big_at 2 frame at = cc a.1 in
-    let p : c.at ≡ at + 2 = cc a.1 in
-    record { above = omega arith; below = omega (arith, a.0); place = p; inside = omega (arith, f.fits) }
+count_got frame at v c q = field_got 2 0 most_edits FieldOut frame at v c q
 
 -- ---- runs of symbols and clips that are accepted
 
-pub symbols_got : (alphabet : ℕ) (frame : List ℕ) (count k at v : ℕ) (c : Cursor) → symbols_from alphabet frame count k at ≡ field.Value v c → at ≤ length frame
+pub symbols_got : (alphabet : ℕ) (frame : List ℕ) (count k at v : ℕ) (c : Cursor) → symbols_from alphabet frame count k at ≡ Ok (v, c) → at ≤ length frame
     → (c.at ≡ at + k) × (at + k ≤ length frame)
 unfolding symbols_from
-symbols_got alphabet frame count zero at v c q h = let p : c.at ≡ at = cc in (omega arith, omega arith)
+symbols_got alphabet frame count zero at v c q h =
+    let both : ◌≡◌ {A = ℕ × Cursor} (count, record { at = at }) (v, c) = cc in
+    let p : at ≡ c.at = ap (λ (x : ℕ × Cursor). x.1.at) both in
+    (omega arith, omega arith)
 symbols_got alphabet frame count (suc k) at v c q h =
     by_test (leb (length frame) at) (λ a. absurd (let e = simp a at q in let z : ◌≡◌ {A = ℕ} 0 1 = cc in omega arith))
     (λ a. by_test (leb (size_of alphabet) (get_or frame at 0)) (λ b. absurd (let e = simp (a, b) at q in let z : ◌≡◌ {A = ℕ} 0 1 = cc in omega arith))
     (λ b. let r = symbols_got alphabet frame count k (at + 1) v c (simp (a, b) at q) (omega (arith, leb-false (length frame) at a)) in (omega (arith, r.0), omega (arith, r.1))))
 
 -- and each of them is inside the alphabet
-symbols_in : (alphabet : ℕ) (frame : List ℕ) (count k at v : ℕ) (c : Cursor) → symbols_from alphabet frame count k at ≡ field.Value v c → (i : ℕ) → i < k → get_or frame (at + i) 0 < size_of alphabet
+symbols_in : (alphabet : ℕ) (frame : List ℕ) (count k at v : ℕ) (c : Cursor) → symbols_from alphabet frame count k at ≡ Ok (v, c) → (i : ℕ) → i < k → get_or frame (at + i) 0 < size_of alphabet
 unfolding symbols_from
 symbols_in alphabet frame count zero at v c q i h = absurd (omega arith)
 symbols_in alphabet frame count (suc k) at v c q i h =
@@ -147,36 +131,36 @@ record PastClips (frame : List ℕ) (readLength : ℕ) (s : Splices) (whole : Cl
   pub same : c ≡ whole
   pub place : next.at ≡ at
 
-past_clips : (frame : List ℕ) (readLength : ℕ) (s : Splices) (whole : Clips) (at : ℕ) (c : Clips) (next : Cursor) → clips_in whole frame readLength s at ≡ clips.Whole next c
+past_clips : (frame : List ℕ) (readLength : ℕ) (s : Splices) (whole : Clips) (at : ℕ) (c : Clips) (next : Cursor) → clips_in whole frame readLength s at ≡ Ok (next, c)
     → PastClips frame readLength s whole at c next
 unfolding clips_in clips_in_read clips_in_pieces
 past_clips frame readLength s whole at c next q =
-    let never : clips.Refused 9 ≡ clips.Whole next c → ⊥ = λ e. (let z : ◌≡◌ {A = ℕ} 0 1 = cc in omega arith) in
+    let never : ◌≡◌ {A = OrRefused (Cursor × Clips)} (Err ClipsOut) (Ok (next, c)) → ⊥ = λ e. (let z : ◌≡◌ {A = ℕ} 0 1 = cc in omega arith) in
     by_test (ltb s.count 2)
     (λ t. by_test (leb readLength (soft_bases whole)) (λ u. absurd (never (simp (t, u) at q)))
     (λ u.
     let few = ltb-true s.count 2 t in
-    let e = simp (t, u) at q in
-    record { clips_within = record { one = λ h. leb-false readLength (soft_bases whole) u; left = λ h. absurd (omega arith); right = λ h. absurd (omega arith) }; same = cc; place = cc }))
+    let both : ◌≡◌ {A = Cursor × Clips} (record { at = at }, whole) (next, c) = cc (simp (t, u) at q) in
+    record { clips_within = record { one = λ h. leb-false readLength (soft_bases whole) u; left = λ h. absurd (omega arith); right = λ h. absurd (omega arith) }; same = sym (ap (λ (x : Cursor × Clips). x.1) both); place = sym (ap (λ (x : Cursor × Clips). x.0.at) both) }))
     (λ t. by_test (leb (big_at 2 frame s.lengths_at) whole.left_soft) (λ u. absurd (never (simp (t, u) at q)))
     (λ u. by_test (leb (last_length (lengths_in frame s)) whole.right_soft) (λ w. absurd (never (simp (t, u, w) at q)))
     (λ w.
     let several = ltb-false s.count 2 t in
-    let e = simp (t, u, w) at q in
+    let both : ◌≡◌ {A = Cursor × Clips} (record { at = at }, whole) (next, c) = cc (simp (t, u, w) at q) in
     record {
       clips_within = record { one = λ h. absurd (omega arith); left = λ h. leb-false _ _ u; right = λ h. leb-false _ _ w };
-      same = cc;
-      place = cc;
+      same = sym (ap (λ (x : Cursor × Clips). x.1) both);
+      place = sym (ap (λ (x : Cursor × Clips). x.0.at) both);
     })))
 
-pub clips_got : (frame : List ℕ) (readLength : ℕ) (s : Splices) (at : ℕ) (c : Clips) (next : Cursor) → clips_at frame readLength s at ≡ clips.Whole next c → GotClips frame readLength s at c next.at
+pub clips_got : (frame : List ℕ) (readLength : ℕ) (s : Splices) (at : ℕ) (c : Clips) (next : Cursor) → clips_at frame readLength s at ≡ Ok (next, c) → GotClips frame readLength s at c next.at
 unfolding clips_at
 clips_got frame readLength s at c next q =
-    let never : (n : ℕ) → clips.Refused n ≡ clips.Whole next c → ⊥ = λ n e. (let z : ◌≡◌ {A = ℕ} 0 1 = cc in omega arith) in
-    let a = past_field _ (never misframed) 2 frame at _ q in
-    let b = past_field _ (never misframed) 2 frame (at + 2) _ a.rest in
-    let d = past_field _ (never misframed) 2 frame (at + 2 + 2) _ b.rest in
-    let f = past_field _ (never misframed) 2 frame (at + 2 + 2 + 2) _ d.rest in
+    let never : (n : Refusal) → ◌≡◌ {A = OrRefused (Cursor × Clips)} (Err n) (Ok (next, c)) → ⊥ = λ n e. (let z : ◌≡◌ {A = ℕ} 0 1 = cc in omega arith) in
+    let a = past_field Err never 2 frame at _ q in
+    let b = past_field Err never 2 frame (at + 2) _ a.rest in
+    let d = past_field Err never 2 frame (at + 2 + 2) _ b.rest in
+    let f = past_field Err never 2 frame (at + 2 + 2 + 2) _ d.rest in
     let whole = clips_of (big_at 2 frame at) (big_at 2 frame (at + 2)) (big_at 2 frame (at + 2 + 2)) (big_at 2 frame (at + 2 + 2 + 2)) in
     let p = past_clips frame readLength s whole (at + 2 + 2 + 2 + 2) c next f.rest in
     record {
@@ -246,18 +230,18 @@ pub block_begun : (class alphabet : ℕ) (frame : List ℕ) (a : AlignedBlock) �
 block_begun class alphabet frame a r h = record { lengths = omega (arith, r.splices.inside h); clip = omega (arith, r.left h); framed = r.framed }
 
 -- the edits, where the block's other fields are accepted
-pub tallied_ready : (class alphabet : ℕ) (frame : List ℕ) (s : Block) (x : Splices) (a : AlignedBlock) → edits_tallied class alphabet frame s x ≡ Whole a
+pub tallied_ready : (class alphabet : ℕ) (frame : List ℕ) (s : Block) (x : Splices) (a : AlignedBlock) → edits_tallied class alphabet frame s x ≡ Ok a
     → Sides class alphabet frame s.length s.clips s.soft_at → s.rcomp ≤ most_rcomp class → PiecesReady class frame s.length s.clips x
     → (class ≡ class_p → s.edits ≡ 0) → s.edits_at ≤ length frame → ReadyBlock class alphabet frame a
 unfolding edits_tallied
 tallied_ready class alphabet frame s x a q sides rcomp pieces plain inside =
     by (check_of class alphabet frame s.edits_at s.edits (mapped_length s.length s.clips)) refl q
   where
-    by : (y : EditsChecked) → check_of class alphabet frame s.edits_at s.edits (mapped_length s.length s.clips) ≡ y → after_edits class s x y ≡ Whole a → ReadyBlock class alphabet frame a
-    by (edits.Refused n) e z = absurd (let y : ◌≡◌ {A = ℕ} 0 1 = cc in omega arith)
-    by (edits.Fine taken text) e z =
-        let f = checked_fine class alphabet frame s.edits_at s.edits (mapped_length s.length s.clips) taken text e in
-        let m : ◌≡◌ {A = AlignedBlock} (record { block = s; splices = x; taken = taken; text = text + clips_length s.clips; next = record { at = block_end class s } }) a = cc in
+    by : (y : OrRefused Extent) → check_of class alphabet frame s.edits_at s.edits (mapped_length s.length s.clips) ≡ y → after_ok y (λ e. Ok (block_whole class s x e.taken e.text)) ≡ Ok a → ReadyBlock class alphabet frame a
+    by (Err n) e z = absurd (let y : ◌≡◌ {A = ℕ} 0 1 = cc in omega arith)
+    by (Ok come) e z =
+        let f = checked_fine class alphabet frame s.edits_at s.edits (mapped_length s.length s.clips) come.taken come.text e in
+        let m : ◌≡◌ {A = AlignedBlock} (block_whole class s x come.taken come.text) a = cc in
         rw (← m)
         record {
           sides = sides;
@@ -274,19 +258,19 @@ tallied_ready class alphabet frame s x a q sides rcomp pieces plain inside =
           sound = f.sound;
           flanks = f.flanks;
           taken = f.taken;
-          text = sym (checked_length class alphabet frame s taken text e);
+          text = sym (checked_length class alphabet frame s come.taken come.text e);
           inside = f.framed inside;
         }
 
 -- ---- step by step: the place stays inside the frame
 
 -- what follows a checked field that is accepted
-checked_whole : (x : CheckedField) (f : ℕ → Cursor → AlignedRead) (a : AlignedBlock) {P : Type 0} → after_checked Refused x f ≡ Whole a → ((v : ℕ) (c : Cursor) → x ≡ field.Value v c → f v c ≡ Whole a → P) → P
-checked_whole (field.Value v c) f a q go = go v c refl q
-checked_whole (field.Refused n) f a q go = absurd (let z : ◌≡◌ {A = ℕ} 0 1 = cc in omega arith)
+checked_whole : (x : Field) (f : ℕ → Cursor → OrRefused AlignedBlock) (a : AlignedBlock) {P : Type 0} → after_field Err x f ≡ Ok a → ((v : ℕ) (c : Cursor) → x ≡ Ok (v, c) → f v c ≡ Ok a → P) → P
+checked_whole (Ok (v, c)) f a q go = go v c refl q
+checked_whole (Err n) f a q go = absurd (let z : ◌≡◌ {A = ℕ} 0 1 = cc in omega arith)
 
 module _ (class alphabet : ℕ) (frame : List ℕ) (readLength rcomp : ℕ) (s : Splices) (a : AlignedBlock) (strand : rcomp ≤ most_rcomp class) where
-  edits_ready : (c : Clips) (softAt at : ℕ) → from_edits class alphabet frame readLength rcomp s c softAt at ≡ Whole a
+  edits_ready : (c : Clips) (softAt at : ℕ) → from_edits class alphabet frame readLength rcomp s c softAt at ≡ Ok a
       → Sides class alphabet frame readLength c softAt → PiecesReady class frame readLength c s → at ≤ length frame → ReadyBlock class alphabet frame a
   unfolding from_edits
   edits_ready c softAt at q sides pieces inside =
@@ -296,7 +280,7 @@ module _ (class alphabet : ℕ) (frame : List ℕ) (readLength rcomp : ℕ) (s :
       (λ v next e r.
       tallied_ready class alphabet frame (block_of readLength rcomp c softAt v next.at) s a r sides strand pieces (λ p. absurd (eqb-false class class_p t p)) (count_got frame at v next e).inside))
 
-  soft_ready : (c : Clips) (at : ℕ) → from_soft class alphabet frame readLength rcomp s c at ≡ Whole a
+  soft_ready : (c : Clips) (at : ℕ) → from_soft class alphabet frame readLength rcomp s c at ≡ Ok a
       → ((symbols : (i : ℕ) → i < soft_bases c → get_or frame (at + i) 0 < size_of alphabet) → at + soft_bases c ≤ length frame → Sides class alphabet frame readLength c at)
       → PiecesReady class frame readLength c s → at ≤ length frame → ReadyBlock class alphabet frame a
   unfolding from_soft
@@ -325,7 +309,7 @@ module _ (class alphabet : ℕ) (frame : List ℕ) (readLength rcomp : ℕ) (s :
       by_test (ltb s.count 2) (λ t. w.one (ltb-true _ _ t))
       (λ t. let h = ltb-false s.count 2 t in omega (arith, sum, w.left h, w.right h, ends_below frame s.count s.lengths_at h))
 
-  clips_ready : (at : ℕ) → from_clips class alphabet frame readLength rcomp s at ≡ Whole a → 1 ≤ readLength → readLength ≤ most_read
+  clips_ready : (at : ℕ) → from_clips class alphabet frame readLength rcomp s at ≡ Ok a → 1 ≤ readLength → readLength ≤ most_read
       → (class_i ≤ class → sum_of (lengths_in frame s) ≡ readLength) → ((c : Clips) → ClipsWithin frame readLength s c → PiecesReady class frame readLength c s) → (class < class_i → s ≡ unspliced)
       → at ≤ length frame → ReadyBlock class alphabet frame a
   unfolding from_clips
@@ -339,9 +323,9 @@ module _ (class alphabet : ℕ) (frame : List ℕ) (readLength rcomp : ℕ) (s :
       inside)
       (λ t. by (ltb-false class class_i t) (clips_at frame readLength s at) refl (simp t at q))
     where
-      by : class_i ≤ class → (x : Clipped) → clips_at frame readLength s at ≡ x → after_clips class alphabet frame readLength rcomp s x ≡ Whole a → ReadyBlock class alphabet frame a
-      by clipped (clips.Refused n) e z = absurd (let y : ◌≡◌ {A = ℕ} 0 1 = cc in omega arith)
-      by clipped (clips.Whole next c) e z =
+      by : class_i ≤ class → (x : OrRefused (Cursor × Clips)) → clips_at frame readLength s at ≡ x → after_ok x (λ read. from_soft class alphabet frame readLength rcomp s read.1 read.0.at) ≡ Ok a → ReadyBlock class alphabet frame a
+      by clipped (Err n) e z = absurd (let y : ◌≡◌ {A = ℕ} 0 1 = cc in omega arith)
+      by clipped (Ok (next, c)) e z =
           let g = clips_got frame readLength s at c next e in
           soft_ready c next.at z
           (λ symbols room. record { least = one; most = most; soft = soft_below c (sum clipped) g.clips_within; fit = g.fit; bare = λ e. absurd (omega arith); symbols = symbols; clipped = room })
@@ -349,7 +333,7 @@ module _ (class alphabet : ℕ) (frame : List ℕ) (readLength rcomp : ℕ) (s :
           g.inside
 
 -- behind a head that was accepted
-pub block_ready : (class alphabet : ℕ) (frame : List ℕ) (h : BlockHead) (a : AlignedBlock) → ReadyHead class frame h → aligned_at class alphabet frame h ≡ Whole a → ReadyBlock class alphabet frame a
+pub block_ready : (class alphabet : ℕ) (frame : List ℕ) (h : BlockHead) (a : AlignedBlock) → ReadyHead class frame h → aligned_at class alphabet frame h ≡ Ok a → ReadyBlock class alphabet frame a
 unfolding aligned_at
 block_ready class alphabet frame h a r q =
     clips_ready class alphabet frame h.length h.rcomp h.splices a r.rcomp h.next.at q r.least r.most r.sum
@@ -363,38 +347,38 @@ pub record OfItsHead (h : BlockHead) (a : AlignedBlock) : Type 0 where
   pub rcomp : a.block.rcomp ≡ h.rcomp
   pub splices : a.splices ≡ h.splices
 
-tallied_head : (class alphabet : ℕ) (frame : List ℕ) (s : Block) (h : BlockHead) (a : AlignedBlock) → s.length ≡ h.length → s.rcomp ≡ h.rcomp → edits_tallied class alphabet frame s h.splices ≡ Whole a → OfItsHead h a
+tallied_head : (class alphabet : ℕ) (frame : List ℕ) (s : Block) (h : BlockHead) (a : AlignedBlock) → s.length ≡ h.length → s.rcomp ≡ h.rcomp → edits_tallied class alphabet frame s h.splices ≡ Ok a → OfItsHead h a
 unfolding edits_tallied
 tallied_head class alphabet frame s h a k r q = by (check_of class alphabet frame s.edits_at s.edits (mapped_length s.length s.clips)) q
   where
-    by : (y : EditsChecked) → after_edits class s h.splices y ≡ Whole a → OfItsHead h a
-    by (edits.Refused n) z = absurd (let y : ◌≡◌ {A = ℕ} 0 1 = cc in omega arith)
-    by (edits.Fine taken text) z =
-        let m : ◌≡◌ {A = AlignedBlock} (record { block = s; splices = h.splices; taken = taken; text = text + clips_length s.clips; next = record { at = block_end class s } }) a = cc in
+    by : (y : OrRefused Extent) → after_ok y (λ e. Ok (block_whole class s h.splices e.taken e.text)) ≡ Ok a → OfItsHead h a
+    by (Err n) z = absurd (let y : ◌≡◌ {A = ℕ} 0 1 = cc in omega arith)
+    by (Ok come) z =
+        let m : ◌≡◌ {A = AlignedBlock} (block_whole class s h.splices come.taken come.text) a = cc in
         rw (← m) record { length = k; rcomp = r; splices = refl }
 
-pub block_head : (class alphabet : ℕ) (frame : List ℕ) (h : BlockHead) (a : AlignedBlock) → aligned_at class alphabet frame h ≡ Whole a → OfItsHead h a
+pub block_head : (class alphabet : ℕ) (frame : List ℕ) (h : BlockHead) (a : AlignedBlock) → aligned_at class alphabet frame h ≡ Ok a → OfItsHead h a
 unfolding aligned_at from_clips from_soft from_edits
 block_head class alphabet frame h a q =
     by_test (ltb class class_i) (λ t. past_edits no_clips h.next.at h.next.at (simp t at q))
     (λ t. by (clips_at frame h.length h.splices h.next.at) (simp t at q))
   where
-    past_edits : (c : Clips) (softAt at : ℕ) → from_edits class alphabet frame h.length h.rcomp h.splices c softAt at ≡ Whole a → OfItsHead h a
+    past_edits : (c : Clips) (softAt at : ℕ) → from_edits class alphabet frame h.length h.rcomp h.splices c softAt at ≡ Ok a → OfItsHead h a
     past_edits c softAt at q =
         by_test (eqb class class_p) (λ t. tallied_head class alphabet frame (block_of h.length h.rcomp c softAt 0 at) h a refl refl (simp t at q))
         (λ t. checked_whole (count_at frame at) _ a (simp t at q)
         (λ v next e r. tallied_head class alphabet frame (block_of h.length h.rcomp c softAt v next.at) h a refl refl r))
 
-    by : (x : Clipped) → after_clips class alphabet frame h.length h.rcomp h.splices x ≡ Whole a → OfItsHead h a
-    by (clips.Refused n) z = absurd (let y : ◌≡◌ {A = ℕ} 0 1 = cc in omega arith)
-    by (clips.Whole next c) z =
+    by : (x : OrRefused (Cursor × Clips)) → after_ok x (λ read. from_soft class alphabet frame h.length h.rcomp h.splices read.1 read.0.at) ≡ Ok a → OfItsHead h a
+    by (Err n) z = absurd (let y : ◌≡◌ {A = ℕ} 0 1 = cc in omega arith)
+    by (Ok (next, c)) z =
         checked_whole (symbols_from alphabet frame (soft_bases c) (soft_bases c) next.at) _ a z (λ v behind e r. past_edits c next.at behind.at r)
 
 -- ---- every head that is accepted
 
-checked_ends : (P : BlockHead → Type 0) (x : CheckedField) (f : ℕ → Cursor → Steps BlockHead) → ((v : ℕ) (c : Cursor) → x ≡ field.Value v c → Ends Any P (f v c)) → Ends Any P (after_checked refuses x f)
-checked_ends P (field.Value v c) f h = h v c refl
-checked_ends P (field.Refused n) f h = tt
+checked_ends : (P : BlockHead → Type 0) (x : Field) (f : ℕ → Cursor → Steps BlockHead) → ((v : ℕ) (c : Cursor) → x ≡ Ok (v, c) → Ends Any P (f v c)) → Ends Any P (after_field refuses x f)
+checked_ends P (Ok (v, c)) f h = h v c refl
+checked_ends P (Err n) f h = tt
 
 -- what does not depend on the end holds of every end
 every_end : {A : Type 0} {P : Type 0} (p : Steps A) → P → Ends Any (λ a. P) p

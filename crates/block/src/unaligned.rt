@@ -1,10 +1,11 @@
 // An unaligned block: a read length and that many symbol indexes.
 ghost use Rattle.std.specs.Prelude.{◌≡◌};
-ghost use Rattle.block.specs.Unaligned.{unaligned_at, from_length};
+ghost use Rattle.block.specs.Unaligned.{unaligned_at};
 
-use crate::checked::{CheckedField, read_length};
+use crate::checked::read_length;
 use crate::symbols::read_symbols;
 use frame::field::Cursor;
+use refusal::Refusal;
 
 // The read's length, the place of its symbols, and the place behind the block.
 #[derive(Clone, Copy)]
@@ -14,30 +15,14 @@ pub struct UnalignedBlock {
     pub next: Cursor,
 }
 
-#[derive(Clone, Copy)]
-pub enum UnalignedRead {
-    Whole(UnalignedBlock),
-    Refused(u32),
-}
-
-pub fn read(frame: &[u8], alphabet: u32, c: Cursor) -> UnalignedRead
+pub fn read(frame: &[u8], alphabet: u32, c: Cursor) -> Result<UnalignedBlock, Refusal>
     ensures { result ≡ unaligned_at alphabet frame.now c.at }
 {
-    match read_length(frame, c) {
-        CheckedField::Refused(n) => UnalignedRead::Refused(n),
-        CheckedField::Value(length, next) => from_length(frame, alphabet, length, next),
-    }
-}
-
-fn from_length(frame: &[u8], alphabet: u32, length: u32, c: Cursor) -> UnalignedRead
-    ensures { result ≡ from_length alphabet frame.now length c.at }
-{
-    let at = c.at;
-    match read_symbols(frame, alphabet, length, c) {
-        CheckedField::Refused(n) => UnalignedRead::Refused(n),
-        CheckedField::Value(_, next) => {
-            let whole = UnalignedBlock { length, at, next };
-            UnalignedRead::Whole(whole)
-        }
-    }
+    let (length, symbols) = read_length(frame, c)?;
+    let (_, next) = read_symbols(frame, alphabet, length, symbols)?;
+    Ok(UnalignedBlock {
+        length,
+        at: symbols.at,
+        next,
+    })
 }

@@ -6,6 +6,8 @@ use mathlib.Core.Bool.{cond}
 use mathlib.Core.List.{List, [], ◌∷◌, ◌++◌}
 use lib.Dec.{ltb}
 use lib.ListN.{length, get_or}
+use Rattle.std.specs.Prelude.{Err}
+use Rattle.refusal.specs.declared.Refusal.{Refusal}
 use Rattle.refusal.specs.Numbers.{fine, missing, no_room}
 use Rattle.frame.proofs.Unique.{once}
 use Rattle.frame.proofs.HexLaws.{by_test}
@@ -15,8 +17,6 @@ use Rattle.unit.specs.declared.Unit.{Unit}
 use Rattle.state.specs.declared.State.{State}
 use Rattle.front.specs.PairLine.{pair_line, table_after}
 use Rattle.front.specs.ReferenceLine.{reference_line, reference_after}
-use Rattle.front.specs.declared.pair_line.PairLine.TheVariants as pair
-use Rattle.front.specs.declared.reference_line.ReferenceLine.TheVariants as reference
 use Rattle.front.proofs.PairLaws.{table_kept}
 use Rattle.front.proofs.ReferenceLaws.{bases_kept}
 use Rattle.listing.specs.Lines.{lines_of}
@@ -36,12 +36,12 @@ use Rattle.decoder.proofs.TurnLaws.{turn_short}
 -- ---- what is left as it was
 
 -- a pair line that is refused leaves the lent table as it was
-pub refused_pair_line_changes_nothing : (line : List ℕ) (i : ℕ) (table : List ℕ) (n : ℕ) → pair_line line i (length table) ≡ pair.Refused n → table_after line i table ≡ table
-refused_pair_line_changes_nothing line i table n e = sym (table_kept line i n table refl (sym e)).1
+pub refused_pair_line_changes_nothing : (line : List ℕ) (i : ℕ) (table : List ℕ) (n : Refusal) → pair_line line i (length table) ≡ Err n → table_after line i table ≡ table
+refused_pair_line_changes_nothing line i table n e = sym (table_kept line i n table e refl).1
 
 -- a reference line that is refused leaves the lent bases as they were
-pub refused_reference_line_changes_nothing : (line : List ℕ) (used : ℕ) (bases : List ℕ) (n : ℕ) → reference_line line used (length bases) ≡ reference.Refused n → reference_after line used bases ≡ bases
-refused_reference_line_changes_nothing line used bases n e = sym (bases_kept line used n bases refl (sym e)).1
+pub refused_reference_line_changes_nothing : (line : List ℕ) (used : ℕ) (bases : List ℕ) (n : Refusal) → reference_line line used (length bases) ≡ Err n → reference_after line used bases ≡ bases
+refused_reference_line_changes_nothing line used bases n e = sym (bases_kept line used n bases e refl).1
 
 -- a turn that is lent less than the longest line needs changes nothing
 pub short_turn_changes_nothing : (u : Unit) (reference symbols counts : List ℕ) (state : State) (line out : List ℕ) → length out ≤ most_listed

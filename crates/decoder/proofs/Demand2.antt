@@ -4,6 +4,7 @@ use Prim.Native.Nat.{ℕ, suc, ◌+◌, ◌<◌, ◌≤◌, ◌^◌}
 use mathlib.Core.Path.{◌≡◌, refl, sym, ◌∙◌, ap}
 use mathlib.Core.List.{List, []}
 use lib.ListN.{length, get_or, take}
+use Rattle.std.specs.Prelude.{Ok}
 use Rattle.limits.specs.Limits.{record_fields}
 use Rattle.frame.specs.Hex.{unhex}
 use Rattle.frame.proofs.HexLaws.{byte_lt}
@@ -25,7 +26,6 @@ use Rattle.taking.proofs.Reading.{decode_reads}
 use Rattle.plan.specs.Plan.{record_steps, plan_of}
 use Rattle.plan.specs.Said.{AlignedIn}
 use Rattle.plan.specs.declared.read.Plan.{Plan}
-use Rattle.plan.specs.declared.read.Planned.TheVariants.{Whole}
 use Rattle.plan.proofs.PlanLaws.{first_is_aligned, first_is_plain, second_is_aligned, second_is_plain, second_is_absent}
 use Rattle.plan.proofs.Table62Laws.{first_table62, second_table62, second_takes_none, link_shaped}
 use Rattle.record.specs.Record.{step_of}
@@ -93,21 +93,21 @@ pub accepted_is_the_standards : (u : Unit) (reference symbols counts : List ℕ)
 accepted_is_the_standards u reference symbols counts state line frame next call =
     let t = step_taken u reference symbols counts state line frame next call in
     let p : Plan = t.plan in
-    let said : (plan_of u reference symbols counts state line).planned ≡ Whole p = t.said in
     let blocks = t.taken.blocks in
     let reads = decode_reads symbols counts (record_steps u reference symbols (unhex line)) state t.plan t.moved t.taken.steps in
     record {
       plan = p;
-      said = said;
-      listed = said_listed u reference symbols counts state line frame next call p said;
+      said = rw (← reads) t.said;
+      listed = said_listed u reference symbols counts state line frame next call p t.moved t.said;
+      paired = t.taken.paired;
       linked = t.taken.linked;
       takes = t.taken.takes;
       takes_pair = t.taken.takes_pair;
       moved = t.next_is ∙ ap (after state) reads;
       first_aligned = first_is_aligned u reference symbols counts (unhex line) record_fields _ p _ blocks;
-      first_position = λ q e. (said_first u reference symbols counts state line frame next call p said q e).1;
+      first_position = λ q e. (said_first u reference symbols counts state line frame next call p t.moved t.said q e).1;
       second_aligned = second_is_aligned u reference symbols counts (unhex line) record_fields _ p _ blocks;
-      second_position = λ q e. (said_second u reference symbols counts state line frame next call p said q e).1;
+      second_position = λ q e. (said_second u reference symbols counts state line frame next call p t.moved t.said q e).1;
       first_unaligned = first_is_plain u reference symbols counts (unhex line) record_fields _ p _ blocks;
       second_unaligned = second_is_plain u reference symbols counts (unhex line) record_fields _ p _ blocks;
       between = blocks.middle;
@@ -115,7 +115,7 @@ accepted_is_the_standards u reference symbols counts state line frame next call 
       second_pieces = λ spliced shape q e. rw (← reads) (second_table62 u reference symbols counts (unhex line) record_fields _ p _ blocks spliced (link_shaped u reference symbols counts state line p _ t.taken shape) q e);
       last_pieces = λ none. sym reads ∙ second_takes_none u reference symbols counts (unhex line) record_fields _ p _ blocks none;
       alone = second_is_absent u reference symbols counts (unhex line) record_fields _ p _ blocks;
-      aligned = λ q i. read_is_the_standards u reference symbols (unhex line) q (byte_lt line) (said_aligned u reference symbols counts state line frame next call p said q i);
+      aligned = λ q i. read_is_the_standards u reference symbols (unhex line) q (byte_lt line) (said_aligned u reference symbols counts state line frame next call p t.moved t.said q i);
       unaligned = unaligned_is_the_standards u reference symbols (unhex line);
     }
 
@@ -143,20 +143,20 @@ module _ (refFile unitFile : List ℕ) where
   records_are_numbered = listing_numbered (front_of refFile unitFile) (front_is_lawful refFile unitFile)
 
   -- in its four bytes the mate's position stands whole, in its two bytes the mate's sequence id, and a read's position in its four: none is cut to the last bytes of a larger number
-  module _ (o : Opened refFile unitFile) (i : ℕ) (line : List ℕ) (r : RecordLine o i line) (p : Plan)
-      (said : (plan_of o.unit o.reference (table_of o.rows) (counts_in o.rows) r.before (get_or o.lines i [])).planned ≡ Whole p) where
+  module _ (o : Opened refFile unitFile) (i : ℕ) (line : List ℕ) (r : RecordLine o i line) (p : Plan) (moved : State)
+      (said : plan_of o.unit o.reference (table_of o.rows) (counts_in o.rows) r.before (get_or o.lines i []) ≡ Ok (p, moved)) where
     pub mate_position_is_whole : mapping_pos p.pos p.link.mate < 2 ^ 32
-    mate_position_is_whole = mate_position o i line r p said
+    mate_position_is_whole = mate_position o i line r p moved said
 
     pub mate_sequence_is_whole : mate_seq_id o.unit.sequence p.link.mate < 2 ^ 16
-    mate_sequence_is_whole = mate_sequence o i line r p said
+    mate_sequence_is_whole = mate_sequence o i line r p moved said
 
     pub read_position_is_whole : (q : Placed) → AlignedIn p q → q.position < 2 ^ 32
-    read_position_is_whole = read_position o i line r p said
+    read_position_is_whole = read_position o i line r p moved said
 
     -- no E-CIGAR of the record has more than 4,165 characters
     pub no_ecigar_is_longer : (q : Placed) → AlignedIn p q → length (listed_ecigar o.unit (table_of o.rows) (unhex (get_or o.lines i [])) q) ≤ longest_spliced
-    no_ecigar_is_longer = ecigar_fits o i line r p said
+    no_ecigar_is_longer = ecigar_fits o i line r p moved said
 
   -- the symbols taken from a subsequence by the first k records are its first ones: in order, each once
   pub symbols_are_taken_in_order : (o : Opened refFile unitFile) (s : ℕ) → s < subsequences → (k : ℕ) → symbols_taken o s k ≡ take (length (symbols_taken o s k)) (get_or o.rows s [])

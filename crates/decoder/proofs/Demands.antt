@@ -4,7 +4,8 @@ use Prim.Native.Nat.{ℕ, suc, ◌<◌}
 use mathlib.Core.Path.{◌≡◌, ap}
 use mathlib.Core.List.{List, []}
 use lib.ListN.{length, get_or, drop}
-use Rattle.refusal.specs.Numbers.{Refusal}
+use Rattle.refusal.specs.declared.Refusal.{Refusal}
+use Rattle.refusal.specs.Numbers.{number_of, InTable}
 use Rattle.state.specs.Listed.{refused, accepted}
 use Rattle.unit.specs.declared.Unit.{Unit}
 use Rattle.state.specs.declared.State.{State}
@@ -25,13 +26,13 @@ use Rattle.decoder.proofs.EndingLaws.{opened_ending}
 use Rattle.decoder.proofs.Demand2.{accepted_is_the_standards}
 
 module _ (u : Unit) (reference symbols counts : List ℕ) (state : State) (line : List ℕ) where
-  -- DEMAND 1. A refused call hands back its number with the state that it was given, and no lent byte differs
-  pub refused_call_changes_nothing : (out : List ℕ) (n : ℕ) → record_of u reference symbols counts state line (length out) ≡ refused n
+  -- DEMAND 1. A refused call hands back its refusal with the state that it was given, and no lent byte differs
+  pub refused_call_changes_nothing : (out : List ℕ) (n : Refusal) → record_of u reference symbols counts state line (length out) ≡ refused n
       → (recorded state (record_of u reference symbols counts state line (length out)) ≡ refused_call n state) × (output out (record_of u reference symbols counts state line (length out)) ≡ out)
   refused_call_changes_nothing out n e = (rw e, rw e)
 
-  -- the number is one of document 01's table
-  pub refusal_is_in_the_table : (room n : ℕ) → record_of u reference symbols counts state line room ≡ refused n → Refusal n
+  -- its number is one of document 01's table
+  pub refusal_is_in_the_table : (room : ℕ) (n : Refusal) → record_of u reference symbols counts state line room ≡ refused n → InTable (number_of n)
   refusal_is_in_the_table room = record_refusal u reference symbols counts state line room
 
   -- DEMAND 2. An accepted record is the standard's: its link by Table 60, its positions, by 3.14 wherever the first piece has a match or a substitution, those of a read's pieces by Table 62, its bases by 10.6.1, 10.2.2 and Table 35, its E-CIGAR by Tables 92 and 94

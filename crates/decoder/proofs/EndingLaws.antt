@@ -8,7 +8,7 @@ use mathlib.Core.Bool.{Bool, true, false, cond}
 use mathlib.Core.List.{List, [], ◌∷◌}
 use lib.ListN.{length, get_or, drop, length-drop}
 use lib.Seq.{ext_get_or}
-use Rattle.refusal.specs.Numbers.{missing}
+use Rattle.refusal.specs.Numbers.{number_of, missing}
 use Rattle.unit.specs.Pairs.{subsequences}
 use Rattle.state.specs.State.{fresh_state, all_taken}
 use Rattle.listing.specs.Listing.{line05, line06, last_line, first_of, rest_of}
@@ -50,7 +50,7 @@ module _ {refFile unitFile : List ℕ} (o : Opened refFile unitFile) where
   last_ending : (i : ℕ) {line : List ℕ} → LastBy (setup_in o) o.unit.records o.lines i (reached o i) line → (reached o i).number ≡ i
       → length (rest_listed refFile unitFile) ≡ suc i → last_from (first_listed refFile unitFile) (rest_listed refFile unitFile) ≡ line → Ending o line
   last_ending i (by_call n h j e) at long is =
-      stopped i n long (ap (λ (m : ℕ). line05 m n) at)
+      stopped i (number_of n) long (ap (λ (m : ℕ). line05 m (number_of n)) at)
       (refused_by (record { before = reached o i; wanted = h; there = j; number = at; index_before = λ s known. index_taken o s known i; call = e }))
   last_ending i (by_end h e) at long is = stopped i missing long (ap (λ (m : ℕ). line05 m missing) at) (lines_run_out h e)
   last_ending i (by_rest e h) at long is = left i e long is

@@ -7,10 +7,12 @@ use mathlib.Core.List.{List, [], ◌∷◌}
 use lib.Dec.{ltb, lit<}
 use lib.ListN.{length, get_or, get_or-replicate, get_or-eq_default}
 use borrow.Author.Tests.{ltb-true, ltb-false}
+use Rattle.std.specs.Prelude.{Ok}
 use Rattle.frame.specs.Hex.{unhex}
 use Rattle.frame.specs.Steps.{stored_at}
 use Rattle.frame.proofs.HexLaws.{by_test, byte_lt}
 use Rattle.unit.specs.Pairs.{subsequences, symbol_place, table_length}
+use Rattle.state.specs.declared.State.{State}
 use Rattle.unit.proofs.ValidLaws.{UnitValid, valid_is}
 use Rattle.front.specs.PairLine.{pair_head, symbol_list}
 use Rattle.front.proofs.PairLaws.{length_symbols, symbol_fits}
@@ -25,7 +27,6 @@ use Rattle.tables.specs.Longest.{longest_spliced}
 use Rattle.plan.specs.Plan.{plan_of}
 use Rattle.plan.specs.Said.{PlanTaken, AlignedIn}
 use Rattle.plan.specs.declared.read.Plan.{Plan}
-use Rattle.plan.specs.declared.read.Planned.TheVariants.{Whole}
 use Rattle.plan.proofs.MateLaws.{mate_fits}
 use Rattle.record.proofs.RecordLaws.{said_taken, said_aligned}
 use Rattle.listing.specs.Files.{good}
@@ -95,26 +96,25 @@ module _ {refFile unitFile : List ℕ} (o : Opened refFile unitFile) where
   opened_valid : UnitValid o.unit
   opened_valid = valid_is o.unit (unit_valid o.first o.unit (unit_read o.first o.unit o.unit_read))
 
-  module _ (i : ℕ) (line : List ℕ) (r : RecordLine o i line) (p : Plan)
-      (said : (plan_of o.unit o.reference (table_of o.rows) (counts_in o.rows) r.before (get_or o.lines i [])).planned ≡ Whole p) where
-    taken : PlanTaken o.unit o.reference (table_of o.rows) (counts_in o.rows) r.before (get_or o.lines i []) p
-        (plan_of o.unit o.reference (table_of o.rows) (counts_in o.rows) r.before (get_or o.lines i [])).state
-    taken = said_taken o.unit o.reference (table_of o.rows) (counts_in o.rows) r.before (get_or o.lines i []) r.frame r.next r.call p said
+  module _ (i : ℕ) (line : List ℕ) (r : RecordLine o i line) (p : Plan) (moved : State)
+      (said : plan_of o.unit o.reference (table_of o.rows) (counts_in o.rows) r.before (get_or o.lines i []) ≡ Ok (p, moved)) where
+    taken : PlanTaken o.unit o.reference (table_of o.rows) (counts_in o.rows) r.before (get_or o.lines i []) p moved
+    taken = said_taken o.unit o.reference (table_of o.rows) (counts_in o.rows) r.before (get_or o.lines i []) r.frame r.next r.call p moved said
 
     pub mate_position : mapping_pos p.pos p.link.mate < 2 ^ 32
     mate_position = mate_fits o.unit o.reference (table_of o.rows) (counts_in o.rows) r.before (get_or o.lines i []) p _ opened_valid opened_fits.end opened_symbols taken
 
     pub mate_sequence : mate_seq_id o.unit.sequence p.link.mate < 2 ^ 16
     mate_sequence =
-        let w = (link_within o.unit (table_of o.rows) (counts_in o.rows) r.before (2 ^ 32) opened_valid.sequence opened_symbols p.link taken.linked).mate in
+        let w = (link_within o.unit (table_of o.rows) (counts_in o.rows) r.before (2 ^ 32) opened_valid.sequence opened_symbols p.link taken.paired taken.linked).mate in
         omega (arith, sequence_within (2 ^ 32) o.unit.sequence p.link.mate opened_valid.sequence w)
 
     pub read_position : (q : Placed) → AlignedIn p q → q.position < 2 ^ 32
     read_position q listed =
-        let a = said_aligned o.unit o.reference (table_of o.rows) (counts_in o.rows) r.before (get_or o.lines i []) r.frame r.next r.call p said q listed in
+        let a = said_aligned o.unit o.reference (table_of o.rows) (counts_in o.rows) r.before (get_or o.lines i []) r.frame r.next r.call p moved said q listed in
         omega (arith, (listed_begins o.unit o.reference (table_of o.rows) (unhex (get_or o.lines i [])) q a).1, opened_fits.end)
 
     pub ecigar_fits : (q : Placed) → AlignedIn p q → length (listed_ecigar o.unit (table_of o.rows) (unhex (get_or o.lines i [])) q) ≤ longest_spliced
     ecigar_fits q listed =
-        let a = said_aligned o.unit o.reference (table_of o.rows) (counts_in o.rows) r.before (get_or o.lines i []) r.frame r.next r.call p said q listed in
+        let a = said_aligned o.unit o.reference (table_of o.rows) (counts_in o.rows) r.before (get_or o.lines i []) r.frame r.next r.call p moved said q listed in
         listed_short o.unit o.reference (table_of o.rows) (unhex (get_or o.lines i [])) q a (byte_lt (get_or o.lines i [])) opened_fits.end

@@ -9,7 +9,7 @@ use lib.Dec.{ltb}
 use lib.ListN.{length, get_or, take, get_or-replicate, get_or-eq_default}
 use lib.Seq.{take-length, length-take-le}
 use borrow.Author.Tests.{ltb-true, ltb-false}
-use Rattle.refusal.specs.Numbers.{missing}
+use Rattle.refusal.specs.Numbers.{number_of, missing}
 use Rattle.frame.proofs.HexLaws.{by_test}
 use Rattle.frame.specs.Hex.{unhex}
 use Rattle.frame.proofs.LineLaws.{line_of_bytes}
@@ -146,7 +146,7 @@ all_listed E (suc k) state (l ∷ ls) z q e = by (E.step state l) e (λ next. al
     by : (t : Step) → last_from z (on_step state.number t (λ next. records E k next ls)) ≡ line06 q
         → ((next : State) (y : List ℕ) (r : ℕ) → last_from y (records E k next ls) ≡ line06 r → (length (records E k next ls) ≡ suc k) × (last_from y (records E k next ls) ≡ line06 E.count))
         → (length (on_step state.number t (λ next. records E k next ls)) ≡ suc (suc k)) × (last_from z (on_step state.number t (λ next. records E k next ls)) ≡ line06 E.count)
-    by (refused n) e go = not_06 state.number n q e
+    by (refused n) e go = not_06 state.number (number_of n) q e
     by (accepted frame next) e go = let g = go next (line_of_bytes frame) q e in (ap suc g.0, g.1)
 
 -- ---- two files

@@ -5,14 +5,14 @@ use native.Mathlib.Omega.{arith}
 use mathlib.Core.Path.{◌≡◌, refl, sym, ap, ◌∙◌}
 use mathlib.Core.List.{List, [], ◌∷◌, ◌++◌}
 use lib.ListN.{length, get_or, take, length-replicate, length-append}
+use Rattle.std.specs.Prelude.{Ok, Err}
+use Rattle.refusal.specs.Answers.{OrRefused}
 use Rattle.frame.specs.Hex.{unhex}
 use Rattle.unit.specs.Unit.{most_reference}
 use Rattle.unit.specs.Pairs.{subsequences, most_symbols, symbol_place, table_length}
 use Rattle.frame.specs.Steps.{stored_at}
 use Rattle.front.specs.PairLine.{table_by, table_after}
 use Rattle.front.specs.ReferenceLine.{bases_of, reference_line, reference_after}
-use Rattle.front.specs.declared.reference_line.ReferenceLine.{ReferenceLine}
-use Rattle.front.specs.declared.reference_line.ReferenceLine.TheVariants.{Bases, Refused}
 use Rattle.front.proofs.ReferenceLaws.{reference_accepted, reference_joined, length_reference}
 use Rattle.front.proofs.PairLaws.{length_table}
 use Rattle.frame.proofs.StoreLaws.{length_stored, stored_inside, stored_before}
@@ -109,14 +109,14 @@ reads_bases [] t bases all long front e = let z : bases ≡ all = cc in rw (← 
 reads_bases (line ∷ ls) t bases all long front e =
     by (reference_line line (length bases) most_reference) refl e (reads_bases ls (reference_after line (length bases) t) (bases ++ bases_of (unhex line)) all)
   where
-    by : (r : ReferenceLine) → r ≡ reference_line line (length bases) most_reference → after_bases r (joined_bases (bases ++ bases_of (unhex line)) ls) ≡ good all
+    by : (r : OrRefused ℕ) → r ≡ reference_line line (length bases) most_reference → after_bases r (joined_bases (bases ++ bases_of (unhex line)) ls) ≡ good all
         → (length (reference_after line (length bases) t) ≡ most_reference
         → take (length (bases ++ bases_of (unhex line))) (reference_after line (length bases) t) ≡ bases ++ bases_of (unhex line)
         → joined_bases (bases ++ bases_of (unhex line)) ls ≡ good all
         → take (length all) (bases_into (reference_after line (length bases) t) (length (bases ++ bases_of (unhex line))) ls) ≡ all)
         → take (length all) (bases_into (reference_after line (length bases) t) (length bases + length (bases_of (unhex line))) ls) ≡ all
-    by (Bases n) h q go =
+    by (Ok n) h q go =
         let j = reference_joined line (length bases) n t (rw long h) in
         let a : n ≡ length bases + length (bases_of (unhex line)) = (reference_accepted line (length bases) most_reference n h).added.count in
         rw (← length-append bases (bases_of (unhex line))) (go (length_reference line (length bases) t ∙ long) (rw (length-append, ← a, j, front)) q)
-    by (Refused n) h q go = absurd (let z : ◌≡◌ {A = ℕ} 0 1 = cc in omega arith)
+    by (Err n) h q go = absurd (let z : ◌≡◌ {A = ℕ} 0 1 = cc in omega arith)

@@ -8,16 +8,17 @@ use mathlib.Core.List.{List, []}
 use mathlib.Core.Option.{Option, none, some}
 use lib.ListN.{length}
 use borrow.Author.Tests.{lt-ltb, le-ltb, eq-eqb, ne_eqb}
-use Rattle.refusal.specs.Numbers.{missing}
+use Rattle.std.specs.Prelude.{Ok, Err}
+use Rattle.refusal.specs.Answers.{OrRefused}
+use Rattle.refusal.specs.declared.Refusal.{Refusal}
+use Rattle.refusal.specs.Numbers.{number_of, missing}
 use Rattle.frame.specs.Hex.{be}
 use Rattle.writing.specs.Whole.{wrote_of, line_into}
-use Rattle.writing.specs.declared.lay.Wrote.{Wrote}
 use Rattle.frame.proofs.LineLaws.{line_of_bytes, length_line}
 use Rattle.state.specs.Listed.{most_listed, Step, refused, accepted}
 use Rattle.unit.specs.declared.Unit.{Unit}
 use Rattle.state.specs.declared.State.{State}
 use Rattle.record.specs.Record.{step_of, record_of, recorded, output}
-use Rattle.record.specs.declared.Answer.TheVariants.{Listed, Refused}
 use Rattle.record.specs.declared.Recorded.{Recorded}
 use Rattle.record.proofs.RecordLaws.{record_roomy}
 use Rattle.listing.specs.Listing.{frame05, line05, frame06, line06, last_line}
@@ -36,7 +37,7 @@ Seen state out t r e = (r ≡ turned state t) × (e ≡ printed_into out t)
 -- ---- a line at the front of what is lent
 
 -- a last line: what the writer answered and wrote is what a stop prints
-stop_told : (out bs : List ℕ) (state : State) → 2 * length bs < length out → {w : Wrote} {r : Turned} {e : List ℕ} → (w ≡ wrote_of out bs) × (e ≡ line_into out bs) → r ≡ stopped_by w state
+stop_told : (out bs : List ℕ) (state : State) → 2 * length bs < length out → {w : OrRefused ℕ} {r : Turned} {e : List ℕ} → (w ≡ wrote_of out bs) × (e ≡ line_into out bs) → r ≡ stopped_by w state
     → Seen state out (stop (line_of_bytes bs)) r e
 unfolding wrote_of line_into
 stop_told out bs state room f q =
@@ -44,13 +45,13 @@ stop_told out bs state room f q =
     (q ∙ simp (f.0, t, length_line bs), f.1 ∙ rw t (front_line out bs))
 
 -- the longest line has room, so the last lines have
-pub refuse_told : (out : List ℕ) (number refusal : ℕ) (state : State) → most_listed < length out → {w : Wrote} {r : Turned} {e : List ℕ}
+pub refuse_told : (out : List ℕ) (number refusal : ℕ) (state : State) → most_listed < length out → {w : OrRefused ℕ} {r : Turned} {e : List ℕ}
     → (w ≡ wrote_of out (frame05 number refusal)) × (e ≡ line_into out (frame05 number refusal)) → r ≡ stopped_by w state
     → Seen state out (stop (line05 number refusal)) r e
 unfolding line05 be
 refuse_told out number refusal state room = stop_told out (frame05 number refusal) state (omega arith)
 
-pub finish_told : (out : List ℕ) (count : ℕ) (state : State) → most_listed < length out → {w : Wrote} {r : Turned} {e : List ℕ}
+pub finish_told : (out : List ℕ) (count : ℕ) (state : State) → most_listed < length out → {w : OrRefused ℕ} {r : Turned} {e : List ℕ}
     → (w ≡ wrote_of out (frame06 count)) × (e ≡ line_into out (frame06 count)) → r ≡ stopped_by w state
     → Seen state out (stop (line06 count)) r e
 unfolding line06 be
@@ -59,7 +60,7 @@ finish_told out count state room = stop_told out (frame06 count) state (omega ar
 -- ---- the record call
 
 -- an accepted record: its line is printed, and the listing goes on
-listed_step : (state : State) (out : List ℕ) (n : ℕ) (t : Step) (r : Recorded) (e : List ℕ) → r ≡ recorded state t → e ≡ output out t → r.answer ≡ Listed n
+listed_step : (state : State) (out : List ℕ) (n : ℕ) (t : Step) (r : Recorded) (e : List ℕ) → r ≡ recorded state t → e ≡ output out t → r.answer ≡ Ok n
     → Seen state out (step_turn state.number t) (record { added = Go n; state = r.state }) e
 listed_step state out n (refused k) r e q f a = absurd (let z : ◌≡◌ {A = ℕ} 0 1 = cc in omega arith)
 listed_step state out n (accepted frame next) r e q f a =
@@ -67,8 +68,8 @@ listed_step state out n (accepted frame next) r e q f a =
     (rw (q, m, length_line frame), f ∙ front_line out frame)
 
 -- a refused one: the output is as it was, so the 05 line stands at its front
-refused_step : (state : State) (out : List ℕ) (k : ℕ) (t : Step) (r : Recorded) (e : List ℕ) → r ≡ recorded state t → e ≡ output out t → r.answer ≡ Refused k → {x : Turned} {g : List ℕ}
-    → Seen state e (stop (line05 state.number k)) x g → Seen state out (step_turn state.number t) x g
+refused_step : (state : State) (out : List ℕ) (k : Refusal) (t : Step) (r : Recorded) (e : List ℕ) → r ≡ recorded state t → e ≡ output out t → r.answer ≡ Err k → {x : Turned} {g : List ℕ}
+    → Seen state e (stop (line05 state.number (number_of k))) x g → Seen state out (step_turn state.number t) x g
 refused_step state out k (accepted frame next) r e q f a p = absurd (let z : ◌≡◌ {A = ℕ} 0 1 = cc in omega arith)
 refused_step state out k (refused m) r e q f a p = let z : k ≡ m = cc in rw (← z, ← f) p
 
@@ -88,14 +89,14 @@ module _ (u : Unit) (reference symbols counts : List ℕ) (state : State) (line 
 
   module _ (some-line : length line ≡ 0 → ⊥) (fits : u.end < 2 ^ 32) (shaped : Shaped state) (room : most_listed < length out)
       {r : Recorded} {e : List ℕ} (was : (r ≡ recorded state called) × (e ≡ output out called)) where
-    pub turn_listed : (n : ℕ) → r.answer ≡ Listed n → Seen state out wanted (record { added = Go n; state = r.state }) e
+    pub turn_listed : (n : ℕ) → r.answer ≡ Ok n → Seen state out wanted (record { added = Go n; state = r.state }) e
     unfolding lent_line
     turn_listed n a =
         let w = record_roomy u reference symbols counts state line (length out) fits shaped room in
         rw (ne_eqb (length line) 0 some-line)
         (listed_step state out n (step_of u reference symbols counts state line) r e (was.0 ∙ ap (recorded state) w) (was.1 ∙ ap (output out) w) a)
 
-    pub turn_refused : (k : ℕ) → r.answer ≡ Refused k → {x : Turned} {g : List ℕ} → Seen state e (stop (line05 state.number k)) x g → Seen state out wanted x g
+    pub turn_refused : (k : Refusal) → r.answer ≡ Err k → {x : Turned} {g : List ℕ} → Seen state e (stop (line05 state.number (number_of k))) x g → Seen state out wanted x g
     unfolding lent_line
     turn_refused k a s =
         let w = record_roomy u reference symbols counts state line (length out) fits shaped room in

@@ -1,6 +1,8 @@
 -- The two files, read (document 01, Lines): reference.hex, and of unit.hex the unit line and the pair lines.
 -- Assumes nothing.
-use Rattle.std.specs.Prelude.{ℕ, suc, ◌+◌, List, [], ◌∷◌, ◌++◌, length, replicate}
+use Rattle.std.specs.Prelude.{ℕ, suc, ◌+◌, List, [], ◌∷◌, ◌++◌, length, replicate, Ok, Err}
+use Rattle.refusal.specs.Numbers.{number_of}
+use Rattle.refusal.specs.Answers.{OrRefused}
 use Rattle.frame.specs.Hex.{unhex}
 use Rattle.unit.specs.Unit.{most_reference}
 use Rattle.unit.specs.Pairs.{symbol_place, table_length}
@@ -9,20 +11,14 @@ use Rattle.front.specs.UnitLine.{unit_line}
 use Rattle.front.specs.PairLine.{pair_head, pair_line, symbol_list, table_after}
 use Rattle.front.specs.ReferenceLine.{bases_of, reference_line, reference_after}
 use Rattle.unit.specs.declared.Unit.{Unit}
-use Rattle.front.specs.declared.unit_line.UnitLine.{UnitLine}
-use Rattle.front.specs.declared.unit_line.UnitLine.TheVariants as unit
-use Rattle.front.specs.declared.pair_line.PairLine.{PairLine}
-use Rattle.front.specs.declared.pair_line.PairLine.TheVariants as pair
-use Rattle.front.specs.declared.reference_line.ReferenceLine.{ReferenceLine}
-use Rattle.front.specs.declared.reference_line.ReferenceLine.TheVariants as ref
 use Rattle.listing.specs.Files.{Read, good, wrong}
 
 -- ---- 07 reference
 
--- the lines behind an accepted one, or its refusal
-abbrev pub after_bases : ReferenceLine → Read (List ℕ) → Read (List ℕ)
-after_bases (ref.Bases n) more = more
-after_bases (ref.Refused n) more = wrong n
+-- the lines behind an accepted one, or the number of its refusal
+abbrev pub after_bases : OrRefused ℕ → Read (List ℕ) → Read (List ℕ)
+after_bases (Ok n) more = more
+after_bases (Err refusal) more = wrong (number_of refusal)
 
 -- "Lines are joined": the symbol indexes of these lines behind those that are there; at most 32,768 in all
 unfoldable pub joined_bases : List ℕ → List (List ℕ) → Read (List ℕ)
@@ -35,10 +31,10 @@ read_reference ls = joined_bases [] ls
 
 -- ---- 01 unit
 
--- the unit that was read, or its line's refusal
-abbrev pub unit_by : UnitLine → Read Unit
-unit_by (unit.Read u) = good u
-unit_by (unit.Refused n) = wrong n
+-- the unit that was read, or the number of its line's refusal
+abbrev pub unit_by : OrRefused Unit → Read Unit
+unit_by (Ok u) = good u
+unit_by (Err refusal) = wrong (number_of refusal)
 
 -- the unit's values
 unfoldable pub read_unit : List ℕ → Read Unit
@@ -46,10 +42,10 @@ read_unit line = unit_by (unit_line line)
 
 -- ---- 02 pair
 
--- the symbols behind the count of a line that is accepted, or its refusal
-abbrev pub symbols_by : List ℕ → PairLine → Read (List ℕ)
-symbols_by line (pair.Count n) = good (symbol_list n (unhex line) pair_head)
-symbols_by line (pair.Refused n) = wrong n
+-- the symbols behind the count of a line that is accepted, or the number of its refusal
+abbrev pub symbols_by : List ℕ → OrRefused ℕ → Read (List ℕ)
+symbols_by line (Ok n) = good (symbol_list n (unhex line) pair_head)
+symbols_by line (Err refusal) = wrong (number_of refusal)
 
 -- the symbols of subsequence i
 unfoldable pub read_pair : ℕ → List ℕ → Read (List ℕ)

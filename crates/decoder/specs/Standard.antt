@@ -1,6 +1,6 @@
 -- What demand 2 says of a record that is listed: positions, mate, bases and E-CIGAR are those of the standard, with the pieces of a read over introns. Every accepted record call is proved to be such a one (proofs/Demand2).
 -- Assumes nothing.
-use Rattle.std.specs.Prelude.{ℕ, ◌+◌, ◌-◌, ◌^◌, ◌<◌, ◌≤◌, ◌≡◌, ◌⊎◌, true, List, ◌++◌, length, get_or}
+use Rattle.std.specs.Prelude.{ℕ, ◌+◌, ◌-◌, ◌^◌, ◌<◌, ◌≤◌, ◌≡◌, ◌⊎◌, true, List, ◌++◌, length, get_or, Ok}
 use Rattle.frame.specs.Hex.{unhex, be}
 use Rattle.frame.specs.Field.{big_at}
 use Rattle.alphabet.specs.Table35.{letter_n, letter_of}
@@ -9,7 +9,6 @@ use Rattle.unit.specs.declared.Unit.{Unit}
 use Rattle.state.specs.declared.State.{State}
 use Rattle.pairing.specs.Table60.{mapping_pos}
 use Rattle.pairing.specs.Pairing.{pair_of, pair_takes}
-use Rattle.pairing.specs.declared.LinkRead.TheVariants.{Linked}
 use Rattle.edits.specs.declared.edit.Edit.{Edit}
 use Rattle.edits.specs.Flanks.{has_base}
 use Rattle.edits.specs.Pieces.{Piece, EachPiece, OfFirst, OfLast}
@@ -25,7 +24,6 @@ use Rattle.taking.specs.Reading.{taken_in, raised_by}
 use Rattle.plan.specs.Plan.{from_pos, plan_of, record_takes}
 use Rattle.plan.specs.Said.{AlignedIn, Table62Of}
 use Rattle.plan.specs.declared.read.Plan.{Plan}
-use Rattle.plan.specs.declared.read.Planned.TheVariants.{Whole}
 use Rattle.record.specs.Record.{listed_bytes}
 use Rattle.state.specs.State.{Shaped, after}
 
@@ -100,15 +98,16 @@ pub record StandardUnaligned (u : Unit) (reference symbols frame : List ℕ) (s 
 -- ---- a record: which 04 line an accepted call lists for its line, and the state behind it
 
 pub record StandardRecord (u : Unit) (reference symbols counts : List ℕ) (state : State) (line frame : List ℕ) (next : State) : Type 0 where
-  -- what the line says: a link, a position and the segments
+  -- what the line says: a link, a position and the segments; the state behind it has each index raised by the symbols that the record takes
   pub plan : Plan
-  pub said : (plan_of u reference symbols counts state line).planned ≡ Whole plan
+  pub said : plan_of u reference symbols counts state line ≡ Ok (plan, raised_by state (record_takes u reference symbols state line))
   -- the 04 line is this record: its number and the indexes behind it, its link, its first and its second segment
   pub listed : frame ≡ listed_bytes u reference symbols (unhex line) state.number next plan
   -- the link is Table 60's, of the pair symbols that stand next at the indexes given
-  pub linked : (pair_of u symbols counts state).answer ≡ Linked plan.link
+  pub paired : State
+  pub linked : pair_of u symbols counts state ≡ Ok (plan.link, paired)
   -- the record takes these symbols first, then those of its blocks, and no others
-  pub takes : record_takes u reference symbols state line ≡ pair_takes u symbols state ++ taken_in symbols (pair_of u symbols counts state).state (from_pos u reference symbols (unhex line) plan.link 1)
+  pub takes : record_takes u reference symbols state line ≡ pair_takes u symbols state ++ taken_in symbols paired (from_pos u reference symbols (unhex line) plan.link 1)
   -- in P, N, M and U no block takes a symbol
   pub takes_pair : (u.class < class_i) ⊎ (u.class ≡ class_u) → record_takes u reference symbols state line ≡ pair_takes u symbols state
   -- and the state behind it has the next number, and each index is raised by the symbols that the record takes of its subsequence
@@ -124,7 +123,7 @@ pub record StandardRecord (u : Unit) (reference symbols counts : List ℕ) (stat
   pub second_unaligned : most_segments ≤ plan.link.segments → class_hm ≤ u.class → (s : UnalignedBlock) × (plan.second ≡ Unaligned s)
   -- in I and HM the pieces of a read stand where Table 62 says: of the first read by the symbols that stand next behind the pair symbols, of the second by those behind the first's
   pub between : State
-  pub first_pieces : class_i ≤ u.class → Shaped state → (q : Placed) → plan.first ≡ Aligned q → Table62Of u symbols counts (unhex line) (pair_of u symbols counts state).state q between
+  pub first_pieces : class_i ≤ u.class → Shaped state → (q : Placed) → plan.first ≡ Aligned q → Table62Of u symbols counts (unhex line) paired q between
   pub second_pieces : class_i ≤ u.class → Shaped state → (q : Placed) → plan.second ≡ Aligned q
       → Table62Of u symbols counts (unhex line) between q (raised_by state (record_takes u reference symbols state line))
   -- a second that is not aligned takes none

@@ -1,10 +1,9 @@
 -- What a caller sees of a turn (document 01, The listing): one call a line of the unit file.
 -- Assumes nothing.
-use Rattle.std.specs.Prelude.{ℕ, cond, List, [], ◌++◌, eqb, ltb, length, drop}
+use Rattle.std.specs.Prelude.{ℕ, cond, List, [], ◌++◌, eqb, ltb, length, drop, Ok, Err}
 use Rattle.std.proofs.Math.Option.{Option, none, some}
 use Rattle.refusal.specs.Numbers.{fine, no_room}
-use Rattle.writing.specs.declared.lay.Wrote.{Wrote}
-use Rattle.writing.specs.declared.lay.Wrote.TheVariants as wrote
+use Rattle.refusal.specs.Answers.{OrRefused}
 use Rattle.state.specs.Listed.{most_listed}
 use Rattle.unit.specs.declared.Unit.{Unit}
 use Rattle.state.specs.declared.State.{State}
@@ -36,9 +35,9 @@ printed_into out (go bytes next) = bytes ++ drop (length bytes) out
 printed_into out (stop bytes) = bytes ++ drop (length bytes) out
 
 -- a last line that was written, or not
-abbrev pub stopped_by : Wrote → State → Turned
-stopped_by (wrote.Line n) state = record { added = Stop n; state = state }
-stopped_by wrote.NoRoom state = record { added = NoRoom; state = state }
+abbrev pub stopped_by : OrRefused ℕ → State → Turned
+stopped_by (Ok n) state = record { added = Stop n; state = state }
+stopped_by (Err refusal) state = record { added = NoRoom; state = state }
 
 -- no 04 line needs more than 20,809 bytes with its 0A, and "the programs lend as much": where less is lent nothing is done
 unfoldable pub turned_of : List ℕ → State → Turn → Turned

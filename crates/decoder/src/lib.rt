@@ -2,6 +2,7 @@
 #![tactic(auto)]
 
 ghost use Rattle.std.specs.Prelude.{◌≡◌, [], ◌<◌, length};
+ghost use Rattle.refusal.specs.Numbers.{number_of};
 ghost use Rattle.state.specs.Listed.{most_listed};
 ghost use Rattle.listing.specs.Listing.{line05, line06};
 ghost use Rattle.listing.specs.Turn.{stop, record_turn, last_turn};
@@ -9,14 +10,13 @@ ghost use Rattle.decoder.specs.Decoder.{setup_of};
 ghost use Rattle.decoder.specs.Turned.{lent_line, turn_of, turned, printed_into, stopped_by, turned_of, output_of};
 
 use listing::close;
-use record::Answer;
+use refusal::Refusal;
 use state::State;
 use state::listed::ListedLine;
 use unit::Unit;
-use writing::lay::Wrote;
 
 // How many bytes were added, and whether the listing goes on behind them; or that less is lent than the longest line needs.
-#[derive(Clone, Copy)]
+#[derive(Clone, Copy, Debug, PartialEq, Eq)]
 pub enum Added {
     Go(usize),
     Stop(usize),
@@ -30,16 +30,16 @@ pub struct Turned {
     pub state: State,
 }
 
-// A last line that was written.
-fn stopped(wrote: Wrote, state: State) -> Turned
+// A last line that was written, or had no room.
+fn stopped(wrote: Result<usize, Refusal>, state: State) -> Turned
     ensures { result ≡ stopped_by wrote state }
 {
     match wrote {
-        Wrote::Line(n) => Turned {
+        Ok(n) => Turned {
             added: Added::Stop(n),
             state,
         },
-        Wrote::NoRoom => Turned {
+        Err(_) => Turned {
             added: Added::NoRoom,
             state,
         },
@@ -47,12 +47,12 @@ fn stopped(wrote: Wrote, state: State) -> Turned
 }
 
 // The listing stops at a refusal.
-fn refuse(out: &mut [u8], number: u32, refusal: u32, state: State) -> Turned
+fn refuse(out: &mut [u8], number: u32, refusal: Refusal, state: State) -> Turned
     requires { most_listed < length out.old }
-    ensures value { result ≡ turned state (stop (line05 number refusal)) }
-    ensures out_after { out.new ≡ printed_into out.old (stop (line05 number refusal)) }
+    ensures value { result ≡ turned state (stop (line05 number (number_of refusal))) }
+    ensures out_after { out.new ≡ printed_into out.old (stop (line05 number (number_of refusal))) }
 {
-    let wrote = close::write_refused(out, number, refusal);
+    let wrote = close::write_refused(out, number, u32::from(refusal));
     stopped(wrote, state)
 }
 
@@ -73,12 +73,12 @@ fn last_turn(unit: Unit, counts: &[u32], state: State, line: &[u8], out: &mut [u
     ensures out_after { out.new ≡ printed_into out.old (last_turn (setup_of unit [] [] counts.now [] []) state (lent_line line.now)) }
 {
     if line.len() != 0 {
-        return refuse(out, unit.records, refusal::MISSING, state);
+        return refuse(out, unit.records, Refusal::Missing, state);
     }
     if state.all_taken(counts) {
         return finish(out, unit.records, state);
     }
-    refuse(out, unit.records, refusal::MISSING, state)
+    refuse(out, unit.records, Refusal::Missing, state)
 }
 
 // A record is wanted: its 04 line, or the 05 line of its refusal.
@@ -96,17 +96,15 @@ fn record_turn(
     ensures out_after { out.new ≡ printed_into out.old (record_turn (setup_of unit reference.now symbols.now counts.now [] []) state (lent_line line.now)) }
 {
     if line.len() == 0 {
-        return refuse(out, state.number, refusal::MISSING, state);
+        return refuse(out, state.number, Refusal::Missing, state);
     }
     let r = record::record(unit, reference, symbols, counts, state, line, out);
-    let answer = r.answer;
-    let next = r.state;
-    match answer {
-        Answer::Listed(n) => Turned {
+    match r.answer {
+        Ok(n) => Turned {
             added: Added::Go(n),
-            state: next,
+            state: r.state,
         },
-        Answer::Refused(k) => refuse(out, state.number, k, state),
+        Err(refusal) => refuse(out, state.number, refusal, state),
     }
 }
 

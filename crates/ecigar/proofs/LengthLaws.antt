@@ -8,6 +8,7 @@ use native.Mathlib.Omega.{arith}
 use borrow.Author.Tests.{eqb-true, eqb-false}
 use lib.Dec.{eqb}
 use lib.ListN.{length, length-append}
+use Rattle.std.specs.Prelude.{Ok}
 use Rattle.frame.proofs.HexLaws.{by_test}
 use Rattle.writing.proofs.DecimalLaws.{digits_short}
 use Rattle.alphabet.specs.Table35.{size_of}
@@ -17,8 +18,7 @@ use Rattle.edits.specs.declared.edit.Edit.{Edit}
 use Rattle.edits.specs.declared.Clips.{Clips}
 use Rattle.edits.proofs.EditLaws.{sound_tail, length_edits, sound_accepted}
 use Rattle.ecigar.specs.declared.walk.Walk.{Walk}
-use Rattle.ecigar.specs.declared.check.EditsChecked.TheVariants.{Fine}
-use Rattle.ecigar.specs.Check.{check_of}
+use Rattle.ecigar.specs.Check.{extent, check_of}
 use Rattle.ecigar.specs.Table90.{round_close, square_close, print_all}
 use Rattle.ecigar.specs.Ecigar.{set_out_at, past, matches, open_run, gap, mark, operations_from, ecigar_of, clip, clips_length}
 use Rattle.ecigar.proofs.PrintLaws.{length_counted, length_printed}
@@ -78,7 +78,7 @@ clips_most c f =
     )
 
 -- the text of what the check accepts
-pub text_most : (class alphabet : ℕ) (frame : List ℕ) (at count mapped taken text : ℕ) → check_of class alphabet frame at count mapped ≡ Fine taken text → text ≤ 2 * most_read + 2 * most_edits
+pub text_most : (class alphabet : ℕ) (frame : List ℕ) (at count mapped taken text : ℕ) → check_of class alphabet frame at count mapped ≡ Ok (extent taken text) → text ≤ 2 * most_read + 2 * most_edits
 text_most class alphabet frame at count mapped taken text q =
     let f = checked_fine class alphabet frame at count mapped taken text q in
     omega (arith, f.text, f.few, f.short, edits_most alphabet mapped (size_of alphabet) (edit_list_at class alphabet frame count at) f.sound, length_edits class alphabet frame count at)

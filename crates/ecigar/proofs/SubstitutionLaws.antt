@@ -1,11 +1,13 @@
 -- The laws of the own walks of N and M, where every edit is a substitution: no run is ever open, so that the walk is an offset and the tally a length.
 -- Assumes nothing.
 use mathlib.Core.Path.{◌≡◌, refl, sym, ap, ◌∙◌}
-use mathlib.Core.Bool.{true, false}
+use mathlib.Core.Bool.{true}
 use mathlib.Core.List.{List, [], ◌∷◌, ◌++◌}
 use Prim.Native.Nat.{ℕ, ◌+◌, ◌-◌, ◌*◌, ◌<◌, ◌≤◌}
 use native.Mathlib.Omega.{arith}
 use lib.ListN.{length}
+use Rattle.std.specs.Prelude.{Ok}
+use Rattle.refusal.specs.Answers.{OrRefused, fine}
 use Rattle.writing.specs.Lay.{Laid}
 use Rattle.writing.proofs.LayLaws.{laid_as}
 use Rattle.alphabet.specs.Table35.{size_of, letter_of}
@@ -15,11 +17,10 @@ use Rattle.edits.specs.declared.edit.Edit.{Edit}
 use Rattle.edits.proofs.EditLaws.{edit_accepted, next_other, substitution_kind}
 use Rattle.ecigar.specs.declared.walk.Walk.{Walk}
 use Rattle.ecigar.specs.declared.check.Tally.{Tally}
-use Rattle.ecigar.specs.declared.check.EditsChecked.{EditsChecked}
-use Rattle.ecigar.specs.declared.check.EditsChecked.TheVariants.{Fine}
+use Rattle.ecigar.specs.declared.check.Extent.{Extent}
 use Rattle.ecigar.specs.Table90.{print_all}
 use Rattle.ecigar.specs.Ecigar.{set_out, past, matches, open_run, gap, mark, ending, operations_from, ecigar_of}
-use Rattle.ecigar.specs.Check.{ends_within}
+use Rattle.ecigar.specs.Check.{extent, complete}
 use Rattle.ecigar.specs.Code.Tally.{start_tally_at, text_by, tallied, after_last}
 use Rattle.ecigar.proofs.PrintLaws.{printed_append}
 use Rattle.ecigar.proofs.WalkLaws.{closed_none, gap_apart, apart_letter, mark_letter, ending_both, past_next, past_kind, matches_most}
@@ -50,7 +51,7 @@ next_letter e k = next_other e (λ h. omega arith)
 -- ---- the check
 
 -- what holds before each turn, when k edits are left: there is a tally of the walk that has come so far
-pub record SubstitutionsChecked (class alphabet : ℕ) (frame : List ℕ) (mapped k at next text : ℕ) (whole : EditsChecked) : Type 0 where
+pub record SubstitutionsChecked (class alphabet : ℕ) (frame : List ℕ) (mapped k at next text : ℕ) (whole : OrRefused Extent) : Type 0 where
   pub tally : Tally
   pub plain : tally.walk.kind ≡ substitution
   pub there : tally.walk.next ≡ next
@@ -60,14 +61,14 @@ pub record SubstitutionsChecked (class alphabet : ℕ) (frame : List ℕ) (mappe
   pub short : text ≤ 2 * next
   pub rest : checked_from class alphabet frame mapped k at tally ≡ whole
 
-pub substitutions_start : (class alphabet : ℕ) (frame : List ℕ) (mapped k at : ℕ) {whole : EditsChecked} → checked_from class alphabet frame mapped k at (start_tally_at 0) ≡ whole
+pub substitutions_start : (class alphabet : ℕ) (frame : List ℕ) (mapped k at : ℕ) {whole : OrRefused Extent} → checked_from class alphabet frame mapped k at (start_tally_at 0) ≡ whole
     → SubstitutionsChecked class alphabet frame mapped k at 0 0 whole
 substitutions_start class alphabet frame mapped k at q =
     record { tally = start_tally_at 0; plain = refl; there = refl; taken = refl; written = refl; inside = omega arith; short = omega arith; rest = q }
 
 module _ (class alphabet : ℕ) (frame : List ℕ) (mapped k at step symbols : ℕ) (wide : step ≡ width_of class) (size : symbols ≡ size_of alphabet) (more : 0 < k)
-    (only : substitutes_only class ≡ true) (e : Edit) (it : e ≡ edit_at class alphabet frame at) (room : false ≡ ends_within frame at step) where
-  pub substitutions_on : (m : ℕ) {next text : ℕ} {whole : EditsChecked} → SubstitutionsChecked class alphabet frame mapped k at next text whole → edit_refusal mapped symbols next e ≡ 0
+    (only : substitutes_only class ≡ true) (e : Edit) (it : e ≡ edit_at class alphabet frame at) (room : fine ≡ complete frame at step) where
+  pub substitutions_on : (m : ℕ) {next text : ℕ} {whole : OrRefused Extent} → SubstitutionsChecked class alphabet frame mapped k at next text whole → edit_refusal mapped symbols next e ≡ fine
       → m ≡ length (print_all (matches (e.offset - next))) → SubstitutionsChecked class alphabet frame mapped (k - 1) (at + step) (e.offset + 1) (text + m + 1) whole
   unfolding tallied text_by past
   substitutions_on m {next} {text} g z q =
@@ -87,14 +88,14 @@ module _ (class alphabet : ℕ) (frame : List ℕ) (mapped k at step symbols : �
         rest = sym (check_on class alphabet frame mapped k at step symbols t wide size more e it room (tallied t e) (rw g.there z) refl) ∙ g.rest;
       }
 
-pub substitutions_end : (class alphabet : ℕ) (frame : List ℕ) (mapped k at : ℕ) (m : ℕ) {next text : ℕ} {whole : EditsChecked} → SubstitutionsChecked class alphabet frame mapped k at next text whole
-    → k ≤ 0 → m ≡ length (print_all (matches (mapped - next))) → Fine mapped (text + m) ≡ whole
+pub substitutions_end : (class alphabet : ℕ) (frame : List ℕ) (mapped k at : ℕ) (m : ℕ) {next text : ℕ} {whole : OrRefused Extent} → SubstitutionsChecked class alphabet frame mapped k at next text whole
+    → k ≤ 0 → m ≡ length (print_all (matches (mapped - next))) → Ok (extent mapped (text + m)) ≡ whole
 unfolding after_last
 substitutions_end class alphabet frame mapped k at m {next} {text} g h q =
     let t = g.tally in
     let all : mapped ≡ t.taken + (mapped - t.walk.next) = omega (arith, g.there, g.taken, g.inside) in
     let last : text + m ≡ t.text + length (print_all (ending mapped t.walk)) = rw (ending_letter mapped t.walk g.plain, g.there, ← q, g.written) in
-    let z = sym (check_end class alphabet frame mapped k at t h) ∙ g.rest in cc
+    ap (λ (x : ℕ). Ok (extent x (text + m))) all ∙ ap (λ (x : ℕ). Ok (extent (t.taken + (mapped - t.walk.next)) x)) last ∙ sym (check_end class alphabet frame mapped k at t h) ∙ g.rest
 
 -- ---- the text
 

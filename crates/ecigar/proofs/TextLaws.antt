@@ -6,6 +6,7 @@ use mathlib.Core.List.{List, ◌++◌}
 use Prim.Native.Nat.{ℕ, zero, suc, ◌+◌, ◌-◌, ◌*◌, ◌<◌, ◌≤◌}
 use native.Mathlib.Omega.{arith}
 use lib.ListN.{length, length-append}
+use Rattle.std.specs.Prelude.{Ok}
 use Rattle.writing.proofs.LayLaws.{Rest, rest_start, rest_put, rest_room}
 use Rattle.writing.specs.Lay.{Laid}
 use Rattle.alphabet.specs.Table35.{size_of}
@@ -19,8 +20,7 @@ use Rattle.edits.proofs.EditLaws.{edit_full, width_full, edits_none, list_on, fr
 use Rattle.ecigar.specs.declared.walk.Walk.{Walk}
 use Rattle.ecigar.specs.Table90.{print_all}
 use Rattle.ecigar.specs.Ecigar.{set_out_at, past, gap, mark, ending, operations_from, operations_of, ecigar_of, clips_length, left_clip, right_clip, block_operations, ecigar_text}
-use Rattle.ecigar.specs.Check.{check_of}
-use Rattle.ecigar.specs.declared.check.EditsChecked.TheVariants.{Fine}
+use Rattle.ecigar.specs.Check.{extent, check_of}
 use Rattle.ecigar.proofs.PrintLaws.{printed_append}
 use Rattle.ecigar.proofs.CheckLaws.{checked_fine}
 use Rattle.ecigar.proofs.WalkLaws.{text_on, text_end, past_next}
@@ -96,7 +96,7 @@ length_ecigar_text class alphabet frame s = rw (text_parts class alphabet frame 
 -- ---- from the check to the writer
 
 module _ (class alphabet : ℕ) (frame : List ℕ) (s : Block) (taken text : ℕ)
-    (checked : check_of class alphabet frame s.edits_at s.edits (mapped_length s.length s.clips) ≡ Fine taken text) where
+    (checked : check_of class alphabet frame s.edits_at s.edits (mapped_length s.length s.clips) ≡ Ok (extent taken text)) where
   -- the length that `check` and `clips_len` answer together is the text's
   pub checked_length : length (ecigar_text class alphabet frame s) ≡ text + clips_length s.clips
   unfolding clips_length

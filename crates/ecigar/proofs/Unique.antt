@@ -3,18 +3,19 @@
 use mathlib.Core.Path.{◌≡◌}
 use mathlib.Core.List.{List}
 use Prim.Native.Nat.{ℕ}
+use Rattle.refusal.specs.Answers.{OrRefused}
 use Rattle.frame.proofs.Unique.{once}
 use Rattle.edits.specs.declared.Clips.{Clips}
 use Rattle.ecigar.specs.Check.{check_of, check_piece}
 use Rattle.ecigar.specs.Ecigar.{clips_length}
 use Rattle.ecigar.specs.Spliced.{splice_length}
-use Rattle.ecigar.specs.declared.check.EditsChecked.{EditsChecked}
+use Rattle.ecigar.specs.declared.check.Extent.{Extent}
 
-pub check_once : (class alphabet : ℕ) (frame : List ℕ) (at count mapped : ℕ) {x y : EditsChecked}
+pub check_once : (class alphabet : ℕ) (frame : List ℕ) (at count mapped : ℕ) {x y : OrRefused Extent}
     → x ≡ check_of class alphabet frame at count mapped → y ≡ check_of class alphabet frame at count mapped → x ≡ y
 check_once class alphabet frame at count mapped p q = once p q
 
-pub check_piece_once : (class alphabet : ℕ) (frame : List ℕ) (from at count until : ℕ) {x y : EditsChecked}
+pub check_piece_once : (class alphabet : ℕ) (frame : List ℕ) (from at count until : ℕ) {x y : OrRefused Extent}
     → x ≡ check_piece class alphabet frame from at count until → y ≡ check_piece class alphabet frame from at count until → x ≡ y
 check_piece_once class alphabet frame from at count until p q = once p q
 

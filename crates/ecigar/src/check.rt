@@ -4,15 +4,17 @@ ghost use Rattle.writing.specs.Decimal.{decimal};
 ghost use Rattle.edits.specs.Edits.{taken_by};
 ghost use Rattle.edits.specs.Code.Runs.{substitutes_only};
 ghost use Rattle.edits.specs.Lengths.{most_read, most_edits, most_ecigar};
+ghost use Rattle.edits.specs.declared.flank.Flank.TheVariants.{Before};
 ghost use Rattle.ecigar.specs.Table90.{print_all};
 ghost use Rattle.ecigar.specs.Ecigar.{open_run, matches, gap};
-ghost use Rattle.ecigar.specs.Check.{ends_within, piece_checked, edits_checked, check_of, check_piece};
-ghost use Rattle.ecigar.specs.Code.Tally.{start_tally_at, text_by, tallied, after_last, after_read};
+ghost use Rattle.ecigar.specs.Check.{complete, piece_checked, edits_checked, check_of, check_piece};
+ghost use Rattle.ecigar.specs.Code.Tally.{start_tally_at, text_by, tallied, after_last, walked};
 
 use crate::walk::{Walk, advance, joins};
-use edits::edit::{Edit, edit_at, refusal_of, substitutes, substitution_at, width};
+use edits::edit::{Edit, edit_at, substitutes, substitution_at, width};
 use edits::flank::Flank;
 use edits::{Block, Run};
+use refusal::Refusal;
 use writing::decimal::decimal_len;
 
 // What the check keeps from edit to edit: the walk, the reference positions taken, and the length of the text so far.
@@ -23,11 +25,11 @@ pub struct Tally {
     pub text: u32,
 }
 
-// What a segment's edits come to: the reference positions taken and the length of the text without clips, or a refusal.
+// What a segment's edits come to: the reference positions taken and the length of the text without clips.
 #[derive(Clone, Copy)]
-pub enum EditsChecked {
-    Fine { taken: u32, text: u32 },
-    Refused(u32),
+pub struct Extent {
+    pub taken: u32,
+    pub text: u32,
 }
 
 impl Tally {
@@ -122,104 +124,89 @@ fn take_edit(t: Tally, e: Edit) -> Tally
 }
 
 // The tally after the last edit.
-fn finish(t: Tally, mapped: u32) -> EditsChecked
+fn finish(t: Tally, mapped: u32) -> Extent
     requires { (t.walk.next ≤ mapped) × ((mapped ≤ most_read) × ((t.taken ≤ most_read + most_edits) × (t.text ≤ most_ecigar))) }
     ensures { result ≡ after_last mapped t }
 {
     let w = t.walk;
     let rest = mapped - w.next;
     let last = closed_len(w) + matches_len(rest);
-    EditsChecked::Fine {
+    Extent {
         taken: t.taken + rest,
         text: t.text + last,
     }
 }
 
-// Whether the frame ends before so many bytes from a place on. Two tests, since the sum may not fit.
-fn ends_within(frame: &[u8], at: usize, bytes: usize) -> bool
-    ensures { result ≡ ends_within frame.now at bytes }
+// Refusal 2 where the frame ends before so many bytes from a place on. Two tests, since the sum may not fit.
+fn complete(frame: &[u8], at: usize, bytes: usize) -> Result<(), Refusal>
+    ensures { result ≡ complete frame.now at bytes }
 {
     let all = frame.len();
     if all < bytes {
-        return true;
+        return Err(Refusal::Misframed);
     }
     if all - bytes < at {
-        return true;
+        return Err(Refusal::Misframed);
     }
-    false
+    Ok(())
 }
 
-// Behind the last edit of a whole read: each of its deletions is flanked, or 12.
-fn finish_read(t: Tally, flank: Flank, mapped: u32) -> EditsChecked
-    requires { (t.walk.next ≤ mapped) × ((mapped ≤ most_read) × ((t.taken ≤ most_read + most_edits) × (t.text ≤ most_ecigar))) }
-    ensures { result ≡ after_read mapped flank t }
-{
-    let w = t.walk;
-    let no = flank.refusal(w.next, mapped);
-    if no != refusal::FINE {
-        return EditsChecked::Refused(no);
-    }
-    finish(t, mapped)
-}
-
-// Each edit of a whole read where it stands: complete, then accepted; then all of them together.
-fn check_edits(frame: &[u8], class: u32, alphabet: u32, run: Run) -> EditsChecked
-    requires { (run.edits ≤ most_edits) × (run.mapped ≤ most_read) }
-    ensures { result ≡ edits_checked class alphabet frame.now run.edits_at run.edits run.mapped }
-{
-    let step = width(class);
-    let symbols = alphabet::size(alphabet);
-    let mut t = Tally::start_at(0);
-    let mut flank = Flank::Before;
-    let mut at = run.edits_at;
-    let mut left = run.edits;
-    while 0 < left {
-        if ends_within(frame, at, step) {
-            return EditsChecked::Refused(refusal::MISFRAMED);
-        }
-        let e = edit_at(frame, class, alphabet, at);
-        let w = t.walk;
-        let no = refusal_of(e, w.next, run.mapped, symbols);
-        if no != refusal::FINE {
-            return EditsChecked::Refused(no);
-        }
-        flank = flank.past(w.next, e);
-        t = take_edit(t, e);
-        at += step;
-        left -= 1;
-    }
-    finish_read(t, flank, run.mapped)
-}
-
-// Each edit of a piece of a read. Its first base stands at offset `from`, and behind its last is `run.mapped`. Its deletions are not looked at together: that is the whole read's.
-fn check_piece_edits(frame: &[u8], class: u32, alphabet: u32, from: u32, run: Run) -> EditsChecked
+// Each edit of a run where it stands: complete, then accepted. The tally begins at offset `from`, and what is kept of the deletions with none.
+#[inline(always)]
+fn walk_edits(
+    frame: &[u8],
+    class: u32,
+    alphabet: u32,
+    from: u32,
+    run: Run,
+) -> Result<(Tally, Flank), Refusal>
     requires { (run.edits ≤ most_edits) × ((run.mapped ≤ most_read) × (from ≤ run.mapped)) }
-    ensures { result ≡ piece_checked class alphabet frame.now from run.edits_at run.edits run.mapped }
+    ensures { result ≡ walked class alphabet frame.now run.mapped run.edits run.edits_at (start_tally_at from) Before }
 {
     let step = width(class);
     let symbols = alphabet::size(alphabet);
     let mut t = Tally::start_at(from);
+    let mut flank = Flank::Before;
     let mut at = run.edits_at;
-    let mut left = run.edits;
-    while 0 < left {
-        if ends_within(frame, at, step) {
-            return EditsChecked::Refused(refusal::MISFRAMED);
-        }
+    for _ in 0..run.edits {
+        complete(frame, at, step)?;
         let e = edit_at(frame, class, alphabet, at);
         let w = t.walk;
-        let no = refusal_of(e, w.next, run.mapped, symbols);
-        if no != refusal::FINE {
-            return EditsChecked::Refused(no);
-        }
+        e.check(w.next, run.mapped, symbols)?;
+        flank = flank.past(w.next, e);
         t = take_edit(t, e);
         at += step;
-        left -= 1;
     }
-    finish(t, run.mapped)
+    Ok((t, flank))
+}
+
+// The edits of a whole read, and behind the last all of them together: each of its deletions is flanked, or 12.
+fn check_edits(frame: &[u8], class: u32, alphabet: u32, run: Run) -> Result<Extent, Refusal>
+    requires { (run.edits ≤ most_edits) × (run.mapped ≤ most_read) }
+    ensures { result ≡ edits_checked class alphabet frame.now run.edits_at run.edits run.mapped }
+{
+    let (t, flank) = walk_edits(frame, class, alphabet, 0, run)?;
+    flank.check(t.walk.next, run.mapped)?;
+    Ok(finish(t, run.mapped))
+}
+
+// The edits of a piece of a read. Its first base stands at offset `from`, and behind its last is `run.mapped`. Its deletions are not looked at together: that is the whole read's.
+fn check_piece_edits(
+    frame: &[u8],
+    class: u32,
+    alphabet: u32,
+    from: u32,
+    run: Run,
+) -> Result<Extent, Refusal>
+    requires { (run.edits ≤ most_edits) × ((run.mapped ≤ most_read) × (from ≤ run.mapped)) }
+    ensures { result ≡ piece_checked class alphabet frame.now from run.edits_at run.edits run.mapped }
+{
+    let (t, _) = walk_edits(frame, class, alphabet, from, run)?;
+    Ok(finish(t, run.mapped))
 }
 
 // The same of a whole read where every edit is a substitution: no run is ever open, each edit takes the reference position of its base, and there is no deletion.
-fn check_substitutions(frame: &[u8], class: u32, alphabet: u32, run: Run) -> EditsChecked
+fn check_substitutions(frame: &[u8], class: u32, alphabet: u32, run: Run) -> Result<Extent, Refusal>
     requires { (substitutes_only class ≡ true) × (run.mapped ≤ most_read) }
     ensures { result ≡ piece_checked class alphabet frame.now 0 run.edits_at run.edits run.mapped }
 {
@@ -228,37 +215,30 @@ fn check_substitutions(frame: &[u8], class: u32, alphabet: u32, run: Run) -> Edi
     let mut next: u32 = 0;
     let mut text: u32 = 0;
     let mut at = run.edits_at;
-    let mut left = run.edits;
-    while 0 < left {
-        if ends_within(frame, at, step) {
-            return EditsChecked::Refused(refusal::MISFRAMED);
-        }
+    for _ in 0..run.edits {
+        complete(frame, at, step)?;
         let e = substitution_at(frame, class, alphabet, at);
-        let no = refusal_of(e, next, run.mapped, symbols);
-        if no != refusal::FINE {
-            return EditsChecked::Refused(no);
-        }
+        e.check(next, run.mapped, symbols)?;
         let offset = e.offset as u32;
         text = text + matches_len(offset - next) + 1;
         next = offset + 1;
         at += step;
-        left -= 1;
     }
-    EditsChecked::Fine {
+    Ok(Extent {
         taken: run.mapped,
         text: text + matches_len(run.mapped - next),
-    }
+    })
 }
 
 // The edits of a whole read, where they stand in the frame.
-pub fn check(frame: &[u8], class: u32, alphabet: u32, run: Run) -> EditsChecked
+pub fn check(frame: &[u8], class: u32, alphabet: u32, run: Run) -> Result<Extent, Refusal>
     ensures { result ≡ check_of class alphabet frame.now run.edits_at run.edits run.mapped }
 {
     if Block::EDITS < run.edits {
-        return EditsChecked::Refused(refusal::FIELD_OUT);
+        return Err(Refusal::FieldOut);
     }
     if Block::READ < run.mapped {
-        return EditsChecked::Refused(refusal::LENGTH_OUT);
+        return Err(Refusal::LengthOut);
     }
     if substitutes(class) {
         return check_substitutions(frame, class, alphabet, run);
@@ -267,17 +247,23 @@ pub fn check(frame: &[u8], class: u32, alphabet: u32, run: Run) -> EditsChecked
 }
 
 // The edits of one piece of a read. Offsets count over the whole read, so the piece says from which offset it goes until which.
-pub fn check_piece(frame: &[u8], class: u32, alphabet: u32, from: u32, run: Run) -> EditsChecked
+pub fn check_piece(
+    frame: &[u8],
+    class: u32,
+    alphabet: u32,
+    from: u32,
+    run: Run,
+) -> Result<Extent, Refusal>
     ensures { result ≡ check_piece class alphabet frame.now from run.edits_at run.edits run.mapped }
 {
     if Block::EDITS < run.edits {
-        return EditsChecked::Refused(refusal::FIELD_OUT);
+        return Err(Refusal::FieldOut);
     }
     if Block::READ < run.mapped {
-        return EditsChecked::Refused(refusal::LENGTH_OUT);
+        return Err(Refusal::LengthOut);
     }
     if run.mapped < from {
-        return EditsChecked::Refused(refusal::OFFSET_OUT);
+        return Err(Refusal::OffsetOut);
     }
     check_piece_edits(frame, class, alphabet, from, run)
 }

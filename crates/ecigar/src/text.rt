@@ -125,13 +125,11 @@ fn put_edits(
     let mut w = Walk::start_at(start);
     let mut next = at;
     let mut place = run.edits_at;
-    let mut left = run.edits;
-    while 0 < left {
+    for _ in 0..run.edits {
         let e = edit_at(frame, class, alphabet, place);
         next = put_edit(out, next, alphabet, &table, w, e);
         w = advance(w, e);
         place += step;
-        left -= 1;
     }
     put_ending(out, next, w, run.mapped)
 }
@@ -175,15 +173,13 @@ fn put_substitutions(
     let mut done: u32 = 0;
     let mut next = from;
     let mut at = run.edits_at;
-    let mut left = run.edits;
-    while 0 < left {
+    for _ in 0..run.edits {
         let e = substitution_at(frame, class, alphabet, at);
         let offset = e.offset as u32;
         let behind = put_matches(out, next, offset - done);
         next = put_letter(out, behind, &table, e.symbol);
         done = offset + 1;
         at += step;
-        left -= 1;
     }
     put_matches(out, next, run.mapped - done)
 }

@@ -9,7 +9,9 @@ use native.Mathlib.Nat.{add-zero, suc-mul, mul-le-mul_left}
 use borrow.Author.Tests.{ltb-false, leb-false, eqb-true, eqb-false, eq-eqb, ne_eqb}
 use lib.Dec.{ltb, leb, eqb}
 use lib.ListN.{length, get_or}
-use Rattle.refusal.specs.Numbers.{fine}
+use Rattle.std.specs.Prelude.{⊤, Err}
+use Rattle.refusal.specs.Answers.{OrRefused, fine}
+use Rattle.refusal.specs.declared.Refusal.{Refusal}
 use Rattle.frame.specs.Field.{big_at}
 use Rattle.frame.proofs.Tests.{by_test, false_true, one_of}
 use Rattle.unit.specs.Unit.{class_n, class_m}
@@ -69,6 +71,10 @@ next_most e = by_test (eqb e.kind deletion) (λ t. simp t (omega arith)) (λ t. 
 
 -- ---- what an edit that is not refused meets
 
+-- a refusal is no acceptance
+pub refused_fine : {P : Type 0} (refusal : Refusal) → ◌≡◌ {A = OrRefused ⊤} (Err refusal) fine → P
+refused_fine refusal z = absurd (let y : ◌≡◌ {A = ℕ} 0 1 = cc in omega arith)
+
 pub record EditAccepted (mapped symbols next : ℕ) (e : Edit) : Type 0 where
   pub order : next ≤ e.offset
   pub inside : next_offset e ≤ mapped
@@ -77,30 +83,30 @@ pub record EditAccepted (mapped symbols next : ℕ) (e : Edit) : Type 0 where
 pub edit_accepted : (mapped symbols next : ℕ) (e : Edit) → edit_refusal mapped symbols next e ≡ fine → EditAccepted mapped symbols next e
 unfolding edit_refusal deletion_refusal
 edit_accepted mapped symbols next e z =
-    by_test (ltb deletion e.kind) (λ a. let y = simp a at z in absurd (omega arith))
+    by_test (ltb deletion e.kind) (λ a. refused_fine _ (simp a at z))
     (λ a.
     let k = ltb-false deletion e.kind a in
     by_test (eqb e.kind deletion)
     (λ b.
     let n = next_deletion e (eqb-true e.kind deletion b) in
     by_test (eqb e.symbol 0)
-    (λ d. by_test (ltb e.offset next) (λ f. let y = simp (a, b, d, f) at z in absurd (omega arith))
-    (λ f. by_test (ltb mapped e.offset) (λ g. let y = simp (a, b, d, f, g) at z in absurd (omega arith))
+    (λ d. by_test (ltb e.offset next) (λ f. refused_fine _ (simp (a, b, d, f) at z))
+    (λ f. by_test (ltb mapped e.offset) (λ g. refused_fine _ (simp (a, b, d, f, g) at z))
     (λ g. record { order = ltb-false e.offset next f; inside = omega (arith, ltb-false mapped e.offset g); kind = k })))
-    (λ d. let y = simp (a, b, d) at z in absurd (omega arith)))
+    (λ d. refused_fine _ (simp (a, b, d) at z)))
     (λ b.
     let n = next_other e (eqb-false e.kind deletion b) in
-    by_test (leb symbols e.symbol) (λ d. let y = simp (a, b, d) at z in absurd (omega arith))
-    (λ d. by_test (ltb e.offset next) (λ f. let y = simp (a, b, d, f) at z in absurd (omega arith))
-    (λ f. by_test (leb mapped e.offset) (λ g. let y = simp (a, b, d, f, g) at z in absurd (omega arith))
+    by_test (leb symbols e.symbol) (λ d. refused_fine _ (simp (a, b, d) at z))
+    (λ d. by_test (ltb e.offset next) (λ f. refused_fine _ (simp (a, b, d, f) at z))
+    (λ f. by_test (leb mapped e.offset) (λ g. refused_fine _ (simp (a, b, d, f, g) at z))
     (λ g. record { order = ltb-false e.offset next f; inside = omega (arith, leb-false mapped e.offset g); kind = k })))))
 
 -- a substitution or an insertion that is not refused brings a symbol of the alphabet
 pub symbol_inside : (mapped symbols next : ℕ) (e : Edit) → edit_refusal mapped symbols next e ≡ fine → (e.kind ≡ deletion → ⊥) → e.symbol < symbols
 unfolding edit_refusal
 symbol_inside mapped symbols next e z h =
-    by_test (ltb deletion e.kind) (λ a. let y = simp a at z in absurd (omega arith))
-    (λ a. by_test (leb symbols e.symbol) (λ d. let y = simp (a, ne_eqb _ _ h, d) at z in absurd (omega arith)) (λ d. leb-false symbols e.symbol d))
+    by_test (ltb deletion e.kind) (λ a. refused_fine _ (simp a at z))
+    (λ a. by_test (leb symbols e.symbol) (λ d. refused_fine _ (simp (a, ne_eqb _ _ h, d) at z)) (λ d. leb-false symbols e.symbol d))
 
 -- ---- a list of edits, one by one
 
@@ -174,3 +180,12 @@ module _ (class alphabet : ℕ) (frame : List ℕ) (mapped k at step : ℕ) (e :
   pub sound_on : (next : ℕ) → Sound mapped (size_of alphabet) next (edit_list_at class alphabet frame k at)
       → Sound mapped (size_of alphabet) (next_offset e) (edit_list_at class alphabet frame (k - 1) (at + step))
   sound_on next s = sound_tail mapped (size_of alphabet) next e (edit_list_at class alphabet frame (k - 1) (at + step)) (rw list_on at s)
+
+-- ---- a loop that counts its turns
+
+-- in a turn something is left, and behind the last nothing
+pub turns_left : {n i : ℕ} → i < n → 0 < n - i
+turns_left h = omega arith
+
+pub turns_over : {n i : ℕ} → n ≤ i → n - i ≤ 0
+turns_over h = omega arith

@@ -8,13 +8,13 @@ use native.Mathlib.Nat.{suc-mul, zero-mul, add-zero, sub-zero}
 use borrow.Author.Tests.{lt-ltb, le-ltb, ltb-true, ltb-false, lt-leb}
 use lib.Dec.{ltb, leb, eqb}
 use lib.ListN.{length}
-use Rattle.refusal.specs.Numbers.{fine}
+use Rattle.refusal.specs.Answers.{fine}
 use Rattle.frame.proofs.Tests.{by_test}
 use Rattle.unit.specs.Unit.{class_n, class_m}
 use Rattle.edits.specs.Edits.{deletion, width_of, offset_at, edit_at, edit_list_at, next_offset, deletion_refusal, edit_refusal, Sound}
 use Rattle.edits.specs.Pieces.{SignedPosition, edits_before, edits_behind, Piece, pieces_from, sum_of, last_length, EachPiece, nil, cons, Spans}
 use Rattle.edits.specs.declared.edit.Edit.{Edit}
-use Rattle.edits.proofs.EditLaws.{edit_accepted, edits_on, edits_none}
+use Rattle.edits.proofs.EditLaws.{refused_fine, edit_accepted, edits_on, edits_none}
 
 -- ---- an edit that is accepted in the whole read
 
@@ -23,12 +23,12 @@ narrower : (mapped symbols next until : ℕ) (e : Edit) → edit_refusal mapped 
 unfolding edit_refusal deletion_refusal
 narrower mapped symbols next until e z h =
     let o = edit_accepted mapped symbols next e z in
-    by_test (ltb deletion e.kind) (λ a. let y = simp a at z in absurd (omega arith))
+    by_test (ltb deletion e.kind) (λ a. refused_fine _ (simp a at z))
     (λ a. by_test (eqb e.kind deletion)
     (λ b. by_test (eqb e.symbol 0)
     (λ d. simp (a, b, d, le-ltb e.offset next o.order, le-ltb until e.offset (omega arith)))
-    (λ d. let y = simp (a, b, d) at z in absurd (omega arith)))
-    (λ b. by_test (leb symbols e.symbol) (λ d. let y = simp (a, b, d) at z in absurd (omega arith))
+    (λ d. refused_fine _ (simp (a, b, d) at z)))
+    (λ b. by_test (leb symbols e.symbol) (λ d. refused_fine _ (simp (a, b, d) at z))
     (λ d. simp (a, b, d, le-ltb e.offset next o.order, lt-leb until e.offset h))))
 
 -- from a later offset on it is accepted too, where it does not stand before it
@@ -36,12 +36,12 @@ later : (mapped symbols next start : ℕ) (e : Edit) → edit_refusal mapped sym
 unfolding edit_refusal deletion_refusal
 later mapped symbols next start e z h =
     let o = edit_accepted mapped symbols next e z in
-    by_test (ltb deletion e.kind) (λ a. let y = simp a at z in absurd (omega arith))
+    by_test (ltb deletion e.kind) (λ a. refused_fine _ (simp a at z))
     (λ a. by_test (eqb e.kind deletion)
     (λ b. by_test (eqb e.symbol 0)
     (λ d. let y = simp (a, b, d, le-ltb e.offset next o.order) at z in simp (a, b, d, le-ltb e.offset start h) y)
-    (λ d. let y = simp (a, b, d) at z in absurd (omega arith)))
-    (λ b. by_test (leb symbols e.symbol) (λ d. let y = simp (a, b, d) at z in absurd (omega arith))
+    (λ d. refused_fine _ (simp (a, b, d) at z)))
+    (λ b. by_test (leb symbols e.symbol) (λ d. refused_fine _ (simp (a, b, d) at z))
     (λ d. let y = simp (a, b, d, le-ltb e.offset next o.order) at z in simp (a, b, d, le-ltb e.offset start h) y)))
 
 -- a list of edits is accepted from its first offset on
@@ -170,8 +170,3 @@ module _ (class alphabet : ℕ) (frame : List ℕ) where
   pub before_end : (k at offset : ℕ) → k ≤ 0 → edits_before offset (edit_list_at class alphabet frame k at) ≡ []
   unfolding edits_before
   before_end k at offset h = rw (edits_none class alphabet frame k at h) refl
-
-  -- one is passed over
-  pub before_step : (count k at offset : ℕ) → 0 < k → k ≤ count → offset_at frame at < offset
-      → count - (k - 1) + length (edits_before offset (edit_list_at class alphabet frame (k - 1) (at + width_of class))) ≡ count - k + length (edits_before offset (edit_list_at class alphabet frame k at))
-  before_step count k at offset h w l = rw (before_on k at offset h l) (omega arith)

@@ -4,6 +4,8 @@ use mathlib.Core.Path.{◌≡◌}
 use mathlib.Core.Bool.{Bool}
 use mathlib.Core.List.{List}
 use Prim.Native.Nat.{ℕ}
+use Rattle.std.specs.Prelude.{⊤}
+use Rattle.refusal.specs.Answers.{OrRefused}
 use Rattle.frame.proofs.Unique.{once}
 use Rattle.edits.specs.Lengths.{no_clips, soft_bases}
 use Rattle.edits.specs.Code.Flank.{flank_past, flank_end}
@@ -36,11 +38,11 @@ edit_at_once class alphabet frame at p q = once p q
 pub next_offset_once : (e : Edit) {x y : ℕ} → x ≡ next_offset e → y ≡ next_offset e → x ≡ y
 next_offset_once e p q = once p q
 
-pub edit_refusal_once : (mapped symbols next : ℕ) (e : Edit) {x y : ℕ} → x ≡ edit_refusal mapped symbols next e → y ≡ edit_refusal mapped symbols next e → x ≡ y
+pub edit_refusal_once : (mapped symbols next : ℕ) (e : Edit) {x y : OrRefused ⊤} → x ≡ edit_refusal mapped symbols next e → y ≡ edit_refusal mapped symbols next e → x ≡ y
 edit_refusal_once mapped symbols next e p q = once p q
 
 pub past_once : (f : Flank) (next : ℕ) (e : Edit) {x y : Flank} → x ≡ flank_past f next e → y ≡ flank_past f next e → x ≡ y
 past_once f next e p q = once p q
 
-pub flank_refusal_once : (f : Flank) (next mapped : ℕ) {x y : ℕ} → x ≡ flank_end f next mapped → y ≡ flank_end f next mapped → x ≡ y
+pub flank_refusal_once : (f : Flank) (next mapped : ℕ) {x y : OrRefused ⊤} → x ≡ flank_end f next mapped → y ≡ flank_end f next mapped → x ≡ y
 flank_refusal_once f next mapped p q = once p q

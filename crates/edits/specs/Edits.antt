@@ -1,7 +1,8 @@
 -- The edits of an aligned block (document 01, Lines and Building a read): what one is in each class, and refusals 11, 10 and 12.
 -- Assumes nothing.
-use Rattle.std.specs.Prelude.{ℕ, zero, suc, ◌+◌, ◌-◌, ◌≡◌, cond, List, [], ◌∷◌, ltb, leb, eqb, get_or}
-use Rattle.refusal.specs.Numbers.{fine, symbol_out, field_out, offset_out}
+use Rattle.std.specs.Prelude.{ℕ, zero, suc, ◌+◌, ◌-◌, ◌≡◌, cond, List, [], ◌∷◌, ltb, leb, eqb, get_or, ⊤, Err}
+use Rattle.refusal.specs.Answers.{OrRefused, fine}
+use Rattle.refusal.specs.declared.Refusal.TheVariants.{SymbolOut, FieldOut, OffsetOut}
 use Rattle.limits.specs.Limits.{edit_bytes}
 use Rattle.frame.specs.Field.{big_at}
 use Rattle.frame.specs.Steps.{unless}
@@ -52,20 +53,20 @@ unfoldable pub next_offset : Edit → ℕ
 next_offset e = cond (eqb e.kind deletion) e.offset (e.offset + 1)
 
 -- a deletion brings no symbol, and its offset is at most the mapped length, as far as this edit alone goes (of all together: Flanks, `flank_refusal`)
-unfoldable pub deletion_refusal : (mapped next symbol offset : ℕ) → ℕ
+unfoldable pub deletion_refusal : (mapped next symbol offset : ℕ) → OrRefused ⊤
 deletion_refusal mapped next symbol offset =
-    unless (eqb symbol no_symbol) field_out
-    (cond (ltb offset next) offset_out
-    (cond (ltb mapped offset) offset_out fine))
+    unless (eqb symbol no_symbol) (Err FieldOut)
+    (cond (ltb offset next) (Err OffsetOut)
+    (cond (ltb mapped offset) (Err OffsetOut) fine))
 
 -- in a complete edit type, symbol, offset: `next` is the least offset that may stand here, `size` the alphabet's
-unfoldable pub edit_refusal : (mapped size next : ℕ) → Edit → ℕ
+unfoldable pub edit_refusal : (mapped size next : ℕ) → Edit → OrRefused ⊤
 edit_refusal mapped size next e =
-    cond (ltb deletion e.kind) field_out
+    cond (ltb deletion e.kind) (Err FieldOut)
     (cond (eqb e.kind deletion) (deletion_refusal mapped next e.symbol e.offset)
-    (cond (leb size e.symbol) symbol_out
-    (cond (ltb e.offset next) offset_out
-    (cond (leb mapped e.offset) offset_out fine))))
+    (cond (leb size e.symbol) (Err SymbolOut)
+    (cond (ltb e.offset next) (Err OffsetOut)
+    (cond (leb mapped e.offset) (Err OffsetOut) fine))))
 
 -- each of these edits is accepted where it stands
 unfoldable pub Sound : (mapped size next : ℕ) → List Edit → Type 0

@@ -2,8 +2,9 @@
 -- The standard's clause 3.14 makes a record's position that of its leftmost mapped base: with a deletion ahead of that base, the position would be one that the read passes over.
 -- Offsets count over the mapped bases of the whole read, through all its pieces.
 -- Assumes nothing.
-use Rattle.std.specs.Prelude.{ℕ, zero, suc, ◌+◌, ◌-◌, ◌≡◌, ◌⊎◌, Bool, true, false, cond, not, ◌&&◌, ◌||◌, List, [], ◌∷◌, eqb}
-use Rattle.refusal.specs.Numbers.{fine, offset_out}
+use Rattle.std.specs.Prelude.{ℕ, zero, suc, ◌+◌, ◌-◌, ◌≡◌, ◌⊎◌, Bool, true, false, cond, not, ◌&&◌, ◌||◌, List, [], ◌∷◌, eqb, ⊤, Err}
+use Rattle.refusal.specs.Answers.{OrRefused, fine}
+use Rattle.refusal.specs.declared.Refusal.TheVariants.{OffsetOut}
 use Rattle.frame.specs.Steps.{unless}
 use Rattle.edits.specs.Edits.{insertion, deletion}
 use Rattle.edits.specs.Pieces.{Piece}
@@ -33,8 +34,8 @@ abbrev pub all_flanked : (mapped : ℕ) → List Edit → Bool
 all_flanked mapped es = each_deletion (flanked mapped es) es
 
 -- refusal 12 of all edits of a read together, behind the last of them
-abbrev pub flank_refusal : (mapped : ℕ) → List Edit → ℕ
-flank_refusal mapped es = unless (all_flanked mapped es) offset_out fine
+abbrev pub flank_refusal : (mapped : ℕ) → List Edit → OrRefused ⊤
+flank_refusal mapped es = unless (all_flanked mapped es) (Err OffsetOut) fine
 
 -- a deletion stands at this offset
 unfoldable pub DeletionAt : (offset : ℕ) → List Edit → Type 0

@@ -4,6 +4,7 @@ ghost use Rattle.edits.specs.Edits.{substitution, insertion, deletion, no_symbol
 ghost use Rattle.edits.specs.Code.Runs.{substitutes_only};
 
 use limits::Limit;
+use refusal::Refusal;
 use unit::Unit;
 
 // One edit, as Table 93 has it: mmOffsets[i], mmTypes[i], and the index of mms[i].
@@ -41,19 +42,11 @@ fn tied() -> [u8; 4]
 pub fn width(class: u32) -> usize
     ensures { result ≡ width_of class }
 {
-    if class == Unit::N {
-        return 2;
+    match class {
+        Unit::N => 2,
+        Unit::M => 3,
+        _ => Limit::EDIT,
     }
-    if class == Unit::M {
-        return 3;
-    }
-    Limit::EDIT
-}
-
-fn wide(b: u8) -> u16
-    ensures { (result ≡ b) × (result < 256) }
-{
-    b as u16
 }
 
 // The offset of the edit at a place of the frame.
@@ -61,17 +54,14 @@ pub(crate) fn offset_at(frame: &[u8], at: usize) -> u16
     requires { at + 2 ≤ length frame.now }
     ensures { result ≡ offset_at frame.now at }
 {
-    wide(frame[at]) * 256 + wide(frame[at + 1])
+    u16::from(frame[at]) * 256 + u16::from(frame[at + 1])
 }
 
 // Whether every edit of a class is a substitution.
 pub fn substitutes(class: u32) -> bool
     ensures { result ≡ substitutes_only class }
 {
-    if class == Unit::N {
-        return true;
-    }
-    class == Unit::M
+    class == Unit::N || class == Unit::M
 }
 
 // The edit at a place of the frame, where every edit is a substitution. In class N it has no symbol of its own: the letter is N.
@@ -119,41 +109,43 @@ pub fn next_offset(e: Edit) -> u32
     e.offset as u32 + 1
 }
 
-// Refusal 11, 10 or 12 of a complete edit, where the least offset that may stand here is `next`; else 0.
-pub fn refusal_of(e: Edit, next: u32, mapped: u32, symbols: u32) -> u32
-    ensures { result ≡ edit_refusal mapped symbols next e }
-{
-    let offset = e.offset as u32;
-    if Edit::DELETION < e.kind {
-        return refusal::FIELD_OUT;
+impl Edit {
+    // Refusal 11, 10 or 12 of a complete edit, where the least offset that may stand here is `next`.
+    pub fn check(self, next: u32, mapped: u32, symbols: u32) -> Result<(), Refusal>
+        ensures { result ≡ edit_refusal mapped symbols next self }
+    {
+        let offset = self.offset as u32;
+        if Edit::DELETION < self.kind {
+            return Err(Refusal::FieldOut);
+        }
+        if self.kind == Edit::DELETION {
+            return check_deletion(self.symbol, offset, next, mapped);
+        }
+        if symbols <= self.symbol as u32 {
+            return Err(Refusal::SymbolOut);
+        }
+        if offset < next {
+            return Err(Refusal::OffsetOut);
+        }
+        if mapped <= offset {
+            return Err(Refusal::OffsetOut);
+        }
+        Ok(())
     }
-    if e.kind == Edit::DELETION {
-        return deletion_refusal(e.symbol, offset, next, mapped);
-    }
-    if symbols <= e.symbol as u32 {
-        return refusal::SYMBOL_OUT;
-    }
-    if offset < next {
-        return refusal::OFFSET_OUT;
-    }
-    if mapped <= offset {
-        return refusal::OFFSET_OUT;
-    }
-    refusal::FINE
 }
 
 // The same of a deletion, which brings no symbol, and whose offset may be the mapped length as far as this edit alone goes: whether it has a base behind it is told behind the last edit (flank.rt).
-fn deletion_refusal(symbol: u8, offset: u32, next: u32, mapped: u32) -> u32
+fn check_deletion(symbol: u8, offset: u32, next: u32, mapped: u32) -> Result<(), Refusal>
     ensures { result ≡ deletion_refusal mapped next symbol offset }
 {
     if symbol != Edit::NONE {
-        return refusal::FIELD_OUT;
+        return Err(Refusal::FieldOut);
     }
     if offset < next {
-        return refusal::OFFSET_OUT;
+        return Err(Refusal::OffsetOut);
     }
     if mapped < offset {
-        return refusal::OFFSET_OUT;
+        return Err(Refusal::OffsetOut);
     }
-    refusal::FINE
+    Ok(())
 }

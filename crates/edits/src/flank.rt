@@ -3,6 +3,7 @@ ghost use Rattle.std.specs.Prelude.{◌≡◌};
 ghost use Rattle.edits.specs.Code.Flank.{past_base, past_deleted, flank_of, flank_past, open_end, flank_end};
 
 use crate::edit::Edit;
+use refusal::Refusal;
 
 // How the deletions stand so far.
 #[derive(Clone, Copy)]
@@ -23,9 +24,7 @@ impl Flank {
         ensures { result ≡ past_base self }
     {
         match self {
-            Flank::Before => Flank::Based,
-            Flank::Based => Flank::Based,
-            Flank::Open => Flank::Based,
+            Flank::Before | Flank::Based | Flank::Open => Flank::Based,
             Flank::Bare => Flank::Bare,
         }
     }
@@ -35,10 +34,8 @@ impl Flank {
         ensures { result ≡ past_deleted self }
     {
         match self {
-            Flank::Before => Flank::Bare,
-            Flank::Based => Flank::Open,
-            Flank::Open => Flank::Open,
-            Flank::Bare => Flank::Bare,
+            Flank::Before | Flank::Bare => Flank::Bare,
+            Flank::Based | Flank::Open => Flank::Open,
         }
     }
 
@@ -65,25 +62,24 @@ impl Flank {
         self.past_kind(e.kind)
     }
 
-    // Refusal 12 behind the last edit, with the match behind it, if there is one; else 0.
-    pub fn refusal(self, next: u32, mapped: u32) -> u32
+    // Refusal 12 behind the last edit, with the match behind it, if there is one.
+    pub fn check(self, next: u32, mapped: u32) -> Result<(), Refusal>
         ensures { result ≡ flank_end self next mapped }
     {
         match self {
-            Flank::Before => refusal::FINE,
-            Flank::Based => refusal::FINE,
-            Flank::Open => open_refusal(next, mapped),
-            Flank::Bare => refusal::OFFSET_OUT,
+            Flank::Before | Flank::Based => Ok(()),
+            Flank::Open => check_open(next, mapped),
+            Flank::Bare => Err(Refusal::OffsetOut),
         }
     }
 }
 
 // The same where a deletion waits for a base behind it.
-fn open_refusal(next: u32, mapped: u32) -> u32
+fn check_open(next: u32, mapped: u32) -> Result<(), Refusal>
     ensures { result ≡ open_end next mapped }
 {
     if next < mapped {
-        return refusal::FINE;
+        return Ok(());
     }
-    refusal::OFFSET_OUT
+    Err(Refusal::OffsetOut)
 }

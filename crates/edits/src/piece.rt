@@ -12,13 +12,11 @@ pub fn count_before(frame: &[u8], class: u32, at: usize, count: u32, offset: u32
 {
     let step = width(class);
     let mut here = at;
-    let mut left = count;
-    while 0 < left {
-        if offset <= offset_at(frame, here) as u32 {
-            return count - left;
+    for before in 0..count {
+        if offset <= u32::from(offset_at(frame, here)) {
+            return before;
         }
         here += step;
-        left -= 1;
     }
     count
 }

@@ -10,7 +10,7 @@ use lib.ListN.{length, take, drop, get_or, length-append, length-drop, take-appe
 use lib.Seq.{take-suc, get_or-drop, drop-drop, drop_at, length-take-le}
 use Rattle.frame.specs.Hex.{unhex, be}
 use Rattle.frame.specs.Field.{big_at, field_at}
-use Rattle.frame.specs.declared.field.Field.TheVariants.{Value}
+use Rattle.std.specs.Prelude.{Ok}
 use Rattle.frame.proofs.HexLaws.{byte_lt, be_one, be_add, length_be}
 use Rattle.frame.proofs.FieldLaws.{big_at_same, field_back}
 
@@ -38,7 +38,7 @@ field_cut k l at h =
 
 -- the same, the other way: a number that stands in front of what is left is read
 pub record IsRead (k n : ℕ) (s : List ℕ) (at : ℕ) (rest : List ℕ) : Type 0 where
-  pub field : field_at k s at ≡ Value n (record { at = at + k })
+  pub field : field_at k s at ≡ Ok (n, record { at = at + k })
   pub next : drop (at + k) s ≡ rest
   pub within : at + k ≤ length s
 

@@ -1,18 +1,20 @@
 -- The laws of a frame that is decoded into bytes.
 -- Assumes nothing.
 use mathlib.Core.Path.{◌≡◌, sym, ◌∙◌}
-use mathlib.Core.Logic.{◌⊎◌, ⊎_elim}
+use mathlib.Core.Logic.{◌⊎◌, inl, inr, ⊎_elim}
 use mathlib.Core.List.{List, [], ◌∷◌, ◌++◌, append-nil}
-use Prim.Native.Nat.{ℕ, ◌+◌, ◌*◌, ◌/◌, ◌<◌, ◌≤◌}
+use Prim.Native.Nat.{ℕ, ◌+◌, ◌*◌, ◌/◌, ◌<◌, ◌≤◌, min}
 use native.Mathlib.Numerals.{add-one}
 use native.Mathlib.Omega.{arith}
+use borrow.Author.Tests.{ltb-true, ltb-false}
+use lib.Dec.{ltb}
 use lib.ListN.{length, take, drop, get_or, drop_of_length-le}
 use lib.Seq.{slice, slice-cons, slice_empty, take_all, take_at, length-take-le}
 use Rattle.frame.specs.Hex.{nib, unhex}
 use Rattle.frame.specs.Line.{line_digits, line_of}
 use Rattle.frame.specs.Steps.{stored_at}
-use Rattle.frame.specs.declared.line.Line.TheVariants.{Frame}
-use Rattle.frame.proofs.HexLaws.{length_unhex, unhex_at}
+use Rattle.std.specs.Prelude.{Ok}
+use Rattle.frame.proofs.HexLaws.{by_test, length_unhex, unhex_at}
 use Rattle.frame.proofs.LineLaws.{frame_is_line}
 use Rattle.frame.proofs.StoreLaws.{Left, left_done}
 
@@ -36,7 +38,7 @@ decoded {t} {t₀} line n i left h k room short one =
 
 -- ---- the frame of a well-formed line, decoded into a part that is as long
 
-module _ (line : List ℕ) (n : ℕ) (well_formed : line_of line ≡ Frame n) where
+module _ (line : List ℕ) (n : ℕ) (well_formed : line_of line ≡ Ok n) where
   pub count : n ≡ length (unhex line)
   count = (frame_is_line line_digits line n well_formed).count
 
@@ -51,3 +53,11 @@ module _ (line : List ℕ) (n : ℕ) (well_formed : line_of line ≡ Frame n) wh
   -- it is what stands at the front then
   pub decoded_front : {f : List ℕ} (rest : List ℕ) → f ≡ unhex line → take n (f ++ rest) ≡ unhex line
   decoded_front rest e = rw e (take_at (unhex line) rest n (sym count))
+
+-- ---- as many bytes as there is room for
+
+pub decoded_all : {t t₀ : List ℕ} (line : List ℕ) (n i : ℕ) → n ≡ min (length t₀) (length line / 2) → Left t i (slice i n (unhex line)) t₀ 0 (take n (unhex line)) → n ≤ i → i ≤ n
+    → t ≡ stored_at t₀ 0 (take (length t₀) (unhex line))
+decoded_all {t} {t₀} line n i e left h k =
+    decoded line n i left h k (omega arith) (omega arith)
+    (by_test (ltb (length t₀) (length line / 2)) (λ q. inl (omega (arith, ltb-true (length t₀) (length line / 2) q))) (λ q. inr (omega (arith, ltb-false (length t₀) (length line / 2) q))))

@@ -12,11 +12,12 @@ use lib.Dec.{leb, lit<}
 use lib.ListN.{length, get_or, get_or-append}
 use lib.Seq.{get_or-append-add, get_or_at}
 use Rattle.frame.specs.Hex.{be}
-use Rattle.frame.specs.Field.{big_at, field_at}
+use Rattle.frame.specs.Field.{Field, big_at, field_at}
 use Rattle.frame.specs.Code.Narrow.{Narrow}
 use Rattle.frame.specs.declared.field.Cursor.{Cursor}
-use Rattle.frame.specs.declared.field.Field.{Field}
-use Rattle.frame.specs.declared.field.Field.TheVariants.{Value, Short}
+use Rattle.std.specs.Prelude.{Ok, Err}
+use Rattle.refusal.specs.declared.Refusal.{Refusal}
+use Rattle.refusal.specs.declared.Refusal.TheVariants.{Misframed}
 use Rattle.frame.proofs.HexLaws.{by_test, length_be, be_add}
 
 -- ---- the number that k bytes stand for
@@ -45,39 +46,48 @@ big_at_same (suc k) s t a b h = rw (big_at_same k s t a b (λ i l. h i (omega ar
 
 -- ---- a field
 
-pub field_short : (k : ℕ) (s : List ℕ) (at : ℕ) → length s < at + k → Short ≡ field_at k s at
+pub field_short : (k : ℕ) (s : List ℕ) (at : ℕ) → length s < at + k → Err Misframed ≡ field_at k s at
 unfolding field_at
 field_short k s at h = simp (lt-leb (at + k) (length s) h)
 
-pub field_value : (k : ℕ) (s : List ℕ) (at v : ℕ) → at + k ≤ length s → v ≡ big_at k s at → Value v (record { at = at + k }) ≡ field_at k s at
+pub field_value : (k : ℕ) (s : List ℕ) (at v : ℕ) → at + k ≤ length s → v ≡ big_at k s at → Ok (v, record { at = at + k }) ≡ field_at k s at
 unfolding field_at
 field_value k s at v h e = simp (le-leb (at + k) (length s) h, e)
 
 -- ---- a field that was answered
 
--- what `Value v c` says of the field
+-- what `Ok (v, c)` says of the field
 pub record IsField (k : ℕ) (s : List ℕ) (at v : ℕ) (c : Cursor) : Type 0 where
   pub fits : at + k ≤ length s
   pub number : v ≡ big_at k s at
   pub next : c.at ≡ at + k
 
-pub value_is_field : (k : ℕ) (s : List ℕ) (at v : ℕ) (c : Cursor) → Value v c ≡ field_at k s at → IsField k s at v c
+pub value_is_field : (k : ℕ) (s : List ℕ) (at v : ℕ) (c : Cursor) → Ok (v, c) ≡ field_at k s at → IsField k s at v c
 unfolding field_at
 value_is_field k s at v c e =
     by_test (leb (at + k) (length s))
     (λ t.
-    let q : Value v c ≡ Value (big_at k s at) (record { at = at + k }) = simp t at e in
-    let d : c ≡ record { at = at + k } = cc in
-    record { fits = leb-true _ _ t; number = cc; next = ap (λ (x : Cursor). x.at) d })
-    (λ t. absurd (let q : Value v c ≡ Short = simp t at e in let z : ◌≡◌ {A = ℕ} 0 1 = cc in omega arith))
+    let q : ◌≡◌ {A = Field} (Ok (v, c)) (Ok (big_at k s at, record { at = at + k })) = simp t at e in
+    let both : ◌≡◌ {A = ℕ × Cursor} (v, c) (big_at k s at, record { at = at + k }) = cc in
+    let d : c ≡ record { at = at + k } = ap (λ (x : ℕ × Cursor). x.1) both in
+    record { fits = leb-true _ _ t; number = ap (λ (x : ℕ × Cursor). x.0) both; next = ap (λ (x : Cursor). x.at) d })
+    (λ t. absurd (let q : ◌≡◌ {A = Field} (Ok (v, c)) (Err Misframed) = simp t at e in let z : ◌≡◌ {A = ℕ} 0 1 = cc in omega arith))
+
+-- what is not complete is refused by 2
+pub field_misframed : (k : ℕ) (s : List ℕ) (at : ℕ) (n : Refusal) → field_at k s at ≡ Err n → n ≡ Misframed
+unfolding field_at
+field_misframed k s at n e =
+    by_test (leb (at + k) (length s))
+    (λ t. absurd (let q : ◌≡◌ {A = Field} (Ok (big_at k s at, record { at = at + k })) (Err n) = simp t at e in let z : ◌≡◌ {A = ℕ} 0 1 = cc in omega arith))
+    (λ t. let q : ◌≡◌ {A = Field} (Err Misframed) (Err n) = simp t at e in cc)
 
 -- a field that is complete is not short
-pub never_short : {P : Type 0} (k : ℕ) (s : List ℕ) (at : ℕ) → at + k ≤ length s → Short ≡ field_at k s at → P
+pub never_short : {P : Type 0} (k : ℕ) (s : List ℕ) (at : ℕ) {n : Refusal} → at + k ≤ length s → Err n ≡ field_at k s at → P
 unfolding field_at
-never_short k s at h e = absurd (let q : Short ≡ Value (big_at k s at) (record { at = at + k }) = simp (le-leb (at + k) (length s) h) at e in let z : ◌≡◌ {A = ℕ} 0 1 = cc in omega arith)
+never_short k s at {n} h e = absurd (let q : ◌≡◌ {A = Field} (Err n) (Ok (big_at k s at, record { at = at + k })) = simp (le-leb (at + k) (length s) h) at e in let z : ◌≡◌ {A = ℕ} 0 1 = cc in omega arith)
 
 -- its number fits its bytes
-pub value_fits : (k v : ℕ) (c : Cursor) {answer : Field} → Narrow k answer → answer ≡ Value v c → v < 256 ^ k
+pub value_fits : (k v : ℕ) (c : Cursor) {answer : Field} → Narrow k answer → answer ≡ Ok (v, c) → v < 256 ^ k
 value_fits k v c n h = rw h at n
 
 -- ---- a number that was laid is read back

@@ -3,7 +3,7 @@
 use mathlib.Core.Path.{◌≡◌, sym, ap, ◌∙◌}
 use mathlib.Core.Bool.{Bool, true, false, cond}
 use mathlib.Core.List.{List, [], ◌∷◌, ◌++◌, append-nil}
-use Prim.Native.Nat.{ℕ, suc, ◌+◌, ◌*◌, ◌-◌, ◌/◌, ◌%◌, ◌<◌, ◌≤◌}
+use Prim.Native.Nat.{ℕ, suc, ◌+◌, ◌*◌, ◌-◌, ◌/◌, ◌%◌, ◌<◌, ◌≤◌, min, max}
 use native.Mathlib.Numerals.{add-one}
 use native.Mathlib.Omega.{arith}
 use borrow.Author.Tests.{lt-ltb, le-ltb, ltb-true, ltb-false, leb-true, leb-false, ne_eqb, eqb-true, eqb-false}
@@ -13,7 +13,10 @@ use lib.Seq.{get_or_at, take_at, slice, slice-cons, slice_empty, length-take-le,
 use Rattle.frame.specs.Hex.{is_digit, unhex, hex_of, all_digits, Bytes}
 use Rattle.frame.specs.Line.{line_end, line_within}
 pub use Rattle.frame.specs.Line.{line_of_bytes}
-use Rattle.frame.specs.declared.line.Line.TheVariants.{Frame, Malformed}
+use Rattle.std.specs.Prelude.{Ok, Err}
+use Rattle.refusal.specs.Answers.{OrRefused}
+use Rattle.refusal.specs.declared.Refusal.{Refusal}
+use Rattle.refusal.specs.declared.Refusal.TheVariants.{Malformed}
 use Rattle.frame.proofs.HexLaws.{by_test, length_hex_of, digits_hex_of, unhex_hex_of, hex_of_unhex, bytes_unhex}
 
 -- ---- a scan of digits, from index i up to index m
@@ -75,7 +78,7 @@ unfolding unhex
 unhex_line bs h = unhex_hex_of bs (line_end ∷ []) h ∙ append-nil bs
 
 -- it is well formed, where the limit allows it
-pub line_is_frame : (most : ℕ) (bs : List ℕ) → Bytes bs → 2 * length bs ≤ most → line_within most (line_of_bytes bs) ≡ Frame (length bs)
+pub line_is_frame : (most : ℕ) (bs : List ℕ) → Bytes bs → 2 * length bs ≤ most → line_within most (line_of_bytes bs) ≡ Ok (length bs)
 unfolding line_within
 line_is_frame most bs h l =
     let n : length (line_of_bytes bs) ≡ 2 * length bs + 1 = length_line bs in
@@ -95,7 +98,7 @@ line_is_frame most bs h l =
 
 -- ---- and back: a well-formed line is the line of its bytes
 
--- what a line that was answered `Frame n` is
+-- what a line that was answered `Ok n` is
 pub record IsLine (most : ℕ) (s : List ℕ) (n : ℕ) : Type 0 where
   pub line : s ≡ line_of_bytes (unhex s)
   pub bytes : Bytes (unhex s)
@@ -109,7 +112,7 @@ cut_last s m e =
     sym (take-append-drop m s)
     ∙ rw (drop-cons s m 0 (omega arith), drop_of_length-le s {i = suc m} (omega arith))
 
-pub frame_is_line : (most : ℕ) (s : List ℕ) (n : ℕ) → line_within most s ≡ Frame n → IsLine most s n
+pub frame_is_line : (most : ℕ) (s : List ℕ) (n : ℕ) → line_within most s ≡ Ok n → IsLine most s n
 unfolding line_within
 frame_is_line most s n q =
     by_test (eqb (length s % 2) 0) (λ a. never (simp a at q)) (λ a.
@@ -126,7 +129,7 @@ frame_is_line most s n q =
     (λ f. never (simp (a, b, d, f) at q)))
     (λ d. never (simp (a, b, d) at q))))
   where
-    never : {P : Type 0} → Malformed ≡ Frame n → P
+    never : {P : Type 0} → ◌≡◌ {A = OrRefused ℕ} (Err Malformed) (Ok n) → P
     never e = absurd (let z : ◌≡◌ {A = ℕ} 0 1 = cc in omega arith)
 
     whole : (most : ℕ) (s d : List ℕ) (n : ℕ) → s ≡ d ++ line_end ∷ [] → hex_of (unhex d) ≡ d → length d ≡ length s - 1 → 2 * n ≤ most → length s ≡ 2 * n + 1 → IsLine most s n
@@ -142,13 +145,38 @@ frame_is_line most s n q =
 
 -- ---- a line that is refused: too long, or without 0A
 
-pub line_too_long : (most : ℕ) (s : List ℕ) → most + 1 < length s → line_within most s ≡ Malformed
+pub line_too_long : (most : ℕ) (s : List ℕ) → most + 1 < length s → line_within most s ≡ Err Malformed
 unfolding line_within
 line_too_long most s h = by_test (eqb (length s % 2) 0) (λ t. simp t) (λ t. simp (t, lt-ltb most (length s - 1) (omega arith)))
 
 -- an empty line has none
-pub line_unended : (most : ℕ) (s : List ℕ) → (get_or s (length s - 1) 0 ≡ line_end → ⊥) → line_within most s ≡ Malformed
+pub line_unended : (most : ℕ) (s : List ℕ) → (get_or s (length s - 1) 0 ≡ line_end → ⊥) → line_within most s ≡ Err Malformed
 unfolding line_within
 line_unended most s h =
     by_test (eqb (length s % 2) 0) (λ t. simp t) (λ t.
     by_test (ltb most (length s - 1)) (λ u. simp (t, u)) (λ u. simp (t, u, ne_eqb _ _ h)))
+
+-- whatever is refused is refused by 1
+pub line_malformed : (most : ℕ) (s : List ℕ) (n : Refusal) → line_within most s ≡ Err n → n ≡ Malformed
+unfolding line_within
+line_malformed most s n e =
+    by_test (eqb (length s % 2) 0) (λ a. is (simp a at e)) (λ a.
+    by_test (ltb most (length s - 1)) (λ b. is (simp (a, b) at e)) (λ b.
+    by_test (eqb (get_or s (length s - 1) 0) line_end) (λ d.
+    by_test (all_digits (take (length s - 1) s)) (λ f. never (simp (a, b, d, f) at e))
+    (λ f. is (simp (a, b, d, f) at e)))
+    (λ d. is (simp (a, b, d) at e))))
+  where
+    is : ◌≡◌ {A = OrRefused ℕ} (Err Malformed) (Err n) → n ≡ Malformed
+    is q = cc
+
+    never : {P : Type 0} {k : ℕ} → ◌≡◌ {A = OrRefused ℕ} (Ok k) (Err n) → P
+    never q = absurd (let z : ◌≡◌ {A = ℕ} 0 1 = cc in omega arith)
+
+-- ---- the lower and the higher of two numbers, as tests
+
+pub min_cond : (a b : ℕ) → min a b ≡ cond (ltb a b) a b
+min_cond a b = by_test (ltb a b) (λ t. rw t (omega (arith, ltb-true a b t))) (λ t. rw t (omega (arith, ltb-false a b t)))
+
+pub max_cond : (a b : ℕ) → max a b ≡ cond (ltb a b) b a
+max_cond a b = by_test (ltb a b) (λ t. rw t (omega (arith, ltb-true a b t))) (λ t. rw t (omega (arith, ltb-false a b t)))

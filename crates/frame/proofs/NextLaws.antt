@@ -1,15 +1,14 @@
 -- The laws of the first line: what is looked at, and each turn of the scan.
 -- Assumes nothing.
-use mathlib.Core.Path.{◌≡◌, ap}
+use mathlib.Core.Path.{◌≡◌, refl, ap}
 use mathlib.Core.Bool.{cond}
-use mathlib.Core.List.{List}
-use Prim.Native.Nat.{ℕ, ◌+◌, ◌<◌, ◌≤◌}
-use native.Mathlib.Numerals.{add-one}
+use mathlib.Core.List.{List, [], ◌∷◌}
+use Prim.Native.Nat.{ℕ, zero, suc, ◌+◌, ◌<◌, ◌≤◌, min}
 use native.Mathlib.Omega.{arith}
 use borrow.Author.Tests.{eq-eqb, ne_eqb, le-leb, lt-leb, leb-true, leb-false}
 use lib.Dec.{eqb, leb}
 use lib.ListN.{length, take, get_or}
-use lib.Seq.{take-take, take_all, length-take-le, slice, slice-cons, slice_empty}
+use lib.Seq.{take-take, take_all, length-take-le}
 use Rattle.frame.specs.Line.{line_digits, line_end}
 use Rattle.frame.specs.Next.{ended_by, next_line}
 use Rattle.frame.specs.Code.Window.{window_of}
@@ -51,20 +50,6 @@ next_near s =
         let m : length s ≡ 0 → ⊥ = λ e. omega arith in
         simp (n, ne_eqb _ _ m, lt-leb (length s) line_digits h, take-take (line_digits + 1) (line_digits + 1) s (omega arith))
 
--- ---- the scan, from index i up to index m
-
-pub ended_here : (l : List ℕ) (m i : ℕ) → i < m → m ≤ length l → get_or l i 0 ≡ line_end → (o : Next) → ended_by i (slice i m l) o ≡ Whole (i + 1)
-unfolding ended_by
-ended_here l m i h k e o = rw (slice-cons i m l 0 h k, eq-eqb _ _ e)
-
-pub ended_on : (l : List ℕ) (m i : ℕ) → i < m → m ≤ length l → (get_or l i 0 ≡ line_end → ⊥) → (o : Next) → ended_by i (slice i m l) o ≡ ended_by (i + 1) (slice (i + 1) m l) o
-unfolding ended_by
-ended_on l m i h k e o = rw (slice-cons i m l 0 h k, ne_eqb _ _ e, add-one)
-
-pub ended_not : (l : List ℕ) (m i : ℕ) → m ≤ i → i ≤ m → (o : Next) → ended_by i (slice i m l) o ≡ o
-unfolding ended_by
-ended_not l m i h k o = let e : i ≡ m = omega arith in rw (e, slice_empty)
-
 -- the definition at the window that the code has computed
 pub next_at : (s : List ℕ) (m : ℕ) → m ≡ window_of (length s)
     → next_line s ≡ cond (eqb m 0) Nothing (ended_by 0 (take m s) (cond (leb m line_digits) NoEnd TooLong))
@@ -78,3 +63,34 @@ next_at s m e =
     let h : line_digits < length s = leb-false (length s) line_digits t in
     let n : length s ≡ 0 → ⊥ = λ z. omega arith in
     rw (e, window_most (length s) h) (simp (ne_eqb _ _ n, t)))
+
+-- ---- the first 0A, from where every byte before it is another
+
+pub ended_found : (l : List ℕ) (i k : ℕ) (o : Next) → i < length l → get_or l i 0 ≡ line_end → ((j : ℕ) → j < i → get_or l j 0 ≡ line_end → ⊥) → ended_by k l o ≡ Whole (k + i + 1)
+unfolding ended_by
+ended_found [] i k o h e f = absurd (omega arith)
+ended_found (x ∷ xs) zero k o h e f = let q : k + 1 ≡ k + 0 + 1 = omega arith in rw (eq-eqb x line_end e, q)
+ended_found (x ∷ xs) (suc i) k o h e f =
+    let q : k + suc i + 1 ≡ k + 1 + i + 1 = omega arith in
+    rw (ne_eqb x line_end (f 0 (omega arith)), q) (ended_found xs i (k + 1) o (omega arith) e (λ j l. f (suc j) (omega arith)))
+
+pub ended_none : (l : List ℕ) (k : ℕ) (o : Next) → ((j : ℕ) → j < length l → get_or l j 0 ≡ line_end → ⊥) → ended_by k l o ≡ o
+unfolding ended_by
+ended_none [] k o f = refl
+ended_none (x ∷ xs) k o f = rw (ne_eqb x line_end (f 0 (omega arith))) (ended_none xs (k + 1) o (λ j l. f (suc j) (omega arith)))
+
+-- ---- the window, as the lower of two numbers
+
+pub window_min : (n : ℕ) → min n (line_digits + 1) ≡ window_of n
+unfolding window_of
+window_min n = by_test (leb n line_digits) (λ t. rw t (omega (arith, leb-true n line_digits t))) (λ t. rw t (omega (arith, leb-false n line_digits t)))
+
+module _ (s : List ℕ) (m : ℕ) (looked : m ≡ window_of (length s)) where
+  pub next_whole : (i : ℕ) → i < length (take m s) → get_or (take m s) i 0 ≡ line_end → ((j : ℕ) → j < i → get_or (take m s) j 0 ≡ line_end → ⊥) → Whole (i + 1) ≡ next_line s
+  next_whole i h e f =
+      let q : m ≡ 0 → ⊥ = λ z. omega (arith, length-take-le m s (window_below looked)) in
+      let r : 0 + i + 1 ≡ i + 1 = omega arith in
+      rw (next_at s m looked, ne_eqb m 0 q, ended_found (take m s) i 0 (cond (leb m line_digits) NoEnd TooLong) h e f, r)
+
+  pub next_none : (m ≡ 0 → ⊥) → ((j : ℕ) → j < length (take m s) → get_or (take m s) j 0 ≡ line_end → ⊥) → next_line s ≡ cond (leb m line_digits) NoEnd TooLong
+  next_none q f = rw (next_at s m looked, ne_eqb m 0 q, ended_none (take m s) 0 (cond (leb m line_digits) NoEnd TooLong) f)

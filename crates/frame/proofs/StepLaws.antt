@@ -9,30 +9,34 @@ use lib.Dec.{ltb, leb, eqb}
 use lib.ListN.{length}
 use Rattle.frame.specs.Hex.{unhex}
 use Rattle.frame.specs.Field.{big_at, field_at, after_field}
-use Rattle.frame.specs.declared.line.Line.{Line}
-use Rattle.frame.specs.declared.line.Line.TheVariants.{Frame, Malformed}
+use Rattle.std.specs.Prelude.{Ok, Err}
+use Rattle.refusal.specs.Answers.{OrRefused}
+use Rattle.refusal.specs.declared.Refusal.{Refusal}
+use Rattle.refusal.specs.declared.Refusal.TheVariants.{Malformed, Misframed}
 use Rattle.frame.specs.declared.field.Cursor.{Cursor}
-use Rattle.frame.specs.declared.field.Field.{Field}
-use Rattle.frame.specs.declared.field.Field.TheVariants.{Value, Short}
+use Rattle.frame.specs.Line.{line_within}
+use Rattle.frame.specs.Field.{Field}
+use Rattle.frame.proofs.LineLaws.{line_malformed}
 use Rattle.frame.proofs.HexLaws.{by_test, length_unhex}
+use Rattle.frame.proofs.Tests.{cond_of}
 use Rattle.frame.specs.Steps.{after_line}
 
 module _ {X : Type 0} (x : X) where
   -- ---- a line's answer
 
-  pub framed : (r spec : Line) (n : ℕ) (bad y : X) → r ≡ spec → r ≡ Frame n → x ≡ y → x ≡ after_line bad spec y
-  framed r spec n bad y e h k = rw (← e, h) k
+  pub framed : (r spec : OrRefused ℕ) (n : ℕ) (stop : Refusal → X) (y : X) → r ≡ spec → r ≡ Ok n → x ≡ y → x ≡ after_line stop spec y
+  framed r spec n stop y e h k = rw (← e, h) k
 
-  pub unframed : (r spec : Line) (bad y : X) → r ≡ spec → r ≡ Malformed → x ≡ bad → x ≡ after_line bad spec y
-  unframed r spec bad y e h k = rw (← e, h) k
+  pub unframed : (r spec : OrRefused ℕ) (n : Refusal) (stop : Refusal → X) (y : X) → r ≡ spec → r ≡ Err n → x ≡ stop n → x ≡ after_line stop spec y
+  unframed r spec n stop y e h k = rw (← e, h) k
 
   -- ---- a field's answer
 
-  pub value : (r spec : Field) (v : ℕ) (c : Cursor) (short : X) (f : ℕ → Cursor → X) → r ≡ spec → r ≡ Value v c → x ≡ f v c → x ≡ after_field short spec f
-  value r spec v c short f e h k = rw (← e, h) k
+  pub value : (r spec : Field) (v : ℕ) (c : Cursor) (stop : Refusal → X) (f : ℕ → Cursor → X) → r ≡ spec → r ≡ Ok (v, c) → x ≡ f v c → x ≡ after_field stop spec f
+  value r spec v c stop f e h k = rw (← e, h) k
 
-  pub ended : (r spec : Field) (short : X) (f : ℕ → Cursor → X) → r ≡ spec → r ≡ Short → x ≡ short → x ≡ after_field short spec f
-  ended r spec short f e h k = rw (← e, h) k
+  pub ended : (r spec : Field) (n : Refusal) (stop : Refusal → X) (f : ℕ → Cursor → X) → r ≡ spec → r ≡ Err n → x ≡ stop n → x ≡ after_field stop spec f
+  ended r spec n stop f e h k = rw (← e, h) k
 
   -- ---- a test
 
@@ -66,20 +70,23 @@ module _ {X : Type 0} (x : X) where
 
 -- ---- what holds of every end of a definition
 
-pub by_line : {X : Type 0} (P : X → Type 0) (r : Line) (bad x : X) → P bad → P x → P (after_line bad r x)
-by_line P (Frame n) bad x h k = k
-by_line P Malformed bad x h k = h
+pub by_line : {X : Type 0} (P : X → Type 0) (most : ℕ) (s : List ℕ) (stop : Refusal → X) (x : X) → P (stop Malformed) → P x → P (after_line stop (line_within most s) x)
+by_line P most s stop x h k = by (line_within most s) refl
+  where
+    by : (r : OrRefused ℕ) → line_within most s ≡ r → P (after_line stop r x)
+    by (Ok n) e = k
+    by (Err n) e = rw (line_malformed most s n e) h
 
-pub by_field : {X : Type 0} (P : X → Type 0) (r : Field) (short : X) (f : ℕ → Cursor → X) → P short → ((v : ℕ) (c : Cursor) → P (f v c)) → P (after_field short r f)
-by_field P (Value v c) short f h k = k v c
-by_field P Short short f h k = h
+pub by_field : {X : Type 0} (P : X → Type 0) (k : ℕ) (s : List ℕ) (at : ℕ) (stop : Refusal → X) (f : ℕ → Cursor → X) → P (stop Misframed) → ((v : ℕ) (c : Cursor) → P (f v c)) → P (after_field stop (field_at k s at) f)
+unfolding field_at
+by_field P k s at stop f h g = cond_of (λ (r : Field). P (after_field stop r f)) (leb (at + k) (length s)) _ _ (λ t. g _ _) (λ t. h)
 
 -- ---- the way back: where the definition does not end early, what held
 
 -- what is left of a definition that comes to y, behind a line that is well formed
-pub record PastLine {X : Type 0} (r : Line) (x y : X) : Type 0 where
+pub record PastLine {X : Type 0} (r : OrRefused ℕ) (x y : X) : Type 0 where
   pub bytes : ℕ
-  pub frame : r ≡ Frame bytes
+  pub frame : r ≡ Ok bytes
   pub rest : x ≡ y
 
 -- behind a field that is complete
@@ -87,18 +94,19 @@ pub record PastField {X : Type 0} (k : ℕ) (s : List ℕ) (at : ℕ) (f : ℕ �
   pub fits : at + k ≤ length s
   pub rest : f (big_at k s at) (record { at = at + k }) ≡ y
 
-module _ {X : Type 0} {y : X} (bad : X) (other : bad ≡ y → ⊥) where
-  pub past_line : (r : Line) (x : X) → after_line bad r x ≡ y → PastLine r x y
-  past_line (Frame n) x e = record { bytes = n; frame = refl; rest = e }
-  past_line Malformed x e = absurd (other e)
+module _ {X : Type 0} {y : X} (stop : Refusal → X) (other : (n : Refusal) → stop n ≡ y → ⊥) where
+  pub past_line : (r : OrRefused ℕ) (x : X) → after_line stop r x ≡ y → PastLine r x y
+  past_line (Ok n) x e = record { bytes = n; frame = refl; rest = e }
+  past_line (Err n) x e = absurd (other n e)
 
-  pub past_field : (k : ℕ) (s : List ℕ) (at : ℕ) (f : ℕ → Cursor → X) → after_field bad (field_at k s at) f ≡ y → PastField k s at f y
+  pub past_field : (k : ℕ) (s : List ℕ) (at : ℕ) (f : ℕ → Cursor → X) → after_field stop (field_at k s at) f ≡ y → PastField k s at f y
   unfolding field_at
   past_field k s at f e =
       by_test (leb (at + k) (length s))
       (λ t. record { fits = leb-true _ _ t; rest = simp t at e })
-      (λ t. absurd (other (simp t at e)))
+      (λ t. absurd (other Misframed (simp t at e)))
 
+module _ {X : Type 0} {y : X} (bad : X) (other : bad ≡ y → ⊥) where
   -- behind a test that refuses, and behind one that lets pass
   pub past_refusal : (a b : ℕ) (x : X) → cond (ltb a b) bad x ≡ y → (b ≤ a) × (x ≡ y)
   past_refusal a b x e = by_test (ltb a b) (λ t. absurd (other (simp t at e))) (λ t. (ltb-false a b t, simp t at e))

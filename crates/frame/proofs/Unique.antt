@@ -7,18 +7,17 @@ use lib.ListN.{length, take, get_or}
 use Rattle.frame.specs.Hex.{unhex}
 use Rattle.frame.specs.Line.{line_within}
 use Rattle.frame.specs.Next.{next_line}
-use Rattle.frame.specs.Field.{field_at}
+use Rattle.frame.specs.Field.{Field, field_at}
 use Rattle.frame.specs.Steps.{stored_at}
-use Rattle.frame.specs.declared.line.Line.{Line}
+use Rattle.refusal.specs.Answers.{OrRefused}
 use Rattle.frame.specs.declared.line.Next.{Next}
-use Rattle.frame.specs.declared.field.Field.{Field}
 
 -- an answer that equals a definition: every promise below is an instance, and the crates above cite it too
 pub once : {A : Type 0} {x y spec : A} → x ≡ spec → y ≡ spec → x ≡ y
 once p q = p ∙ sym q
 
 -- `line_within`, and `line_of` at the input limit
-pub line_once : (most : ℕ) (s : List ℕ) {x y : Line} → x ≡ line_within most s → y ≡ line_within most s → x ≡ y
+pub line_once : (most : ℕ) (s : List ℕ) {x y : OrRefused ℕ} → x ≡ line_within most s → y ≡ line_within most s → x ≡ y
 line_once most s p q = once p q
 
 pub next_line_once : (s : List ℕ) {x y : Next} → x ≡ next_line s → y ≡ next_line s → x ≡ y

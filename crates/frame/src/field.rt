@@ -1,19 +1,15 @@
-// Fields of a frame, read straight from the line's digits. Numbers are unsigned, high byte first.
-ghost use Rattle.std.specs.Prelude.{◌≡◌, ◌<◌, ◌≤◌, get_or};
+// Fields of a frame, read from its bytes or straight from the line's digits. Numbers are unsigned, high byte first.
+ghost use Rattle.std.specs.Prelude.{◌≡◌, ◌≤◌, ◌<◌, List, ℕ, length, get_or};
 ghost use Rattle.frame.specs.Hex.{nib, unhex};
 ghost use Rattle.frame.specs.Field.{field_at};
+ghost use Rattle.frame.specs.Code.Narrow.{Narrow};
+
+use refusal::Refusal;
 
 // A place of the frame: how many of its bytes are read.
 #[derive(Clone, Copy)]
 pub struct Cursor {
     pub at: usize,
-}
-
-// What a field is: its value and the place behind it, or a frame that ends before it is complete.
-#[derive(Clone, Copy)]
-pub enum Field {
-    Value(u32, Cursor),
-    Short,
 }
 
 // The value of a digit: its low four bits, and 9 more for a letter. No test, so no branch that is guessed wrong.
@@ -35,48 +31,82 @@ pub fn byte_at(line: &[u8], i: usize) -> u8
     }
 }
 
-pub(crate) fn wide(b: u8) -> u32
-    ensures { (result ≡ b) × (result < 256) }
-{
-    b as u32
+// A frame, as its bytes stand somewhere: decoded, or as the digits of its line.
+pub trait Frame {
+    ghost bytes: { Self → List ℕ };
+
+    // How many bytes there are.
+    fn count(&self) -> usize
+        ensures { result ≡ length (bytes self.now) };
+
+    fn byte(&self, i: usize) -> u8
+        requires { i < length (bytes self.now) }
+        ensures { result ≡ get_or (bytes self.now) i 0 };
 }
 
-// A field of k bytes: the readers below are this at one width each.
-fn read_wide(line: &[u8], c: Cursor, k: usize) -> Field
+// A frame that is decoded.
+impl<'a> Frame for &'a [u8] {
+    ghost bytes = { λ frame. frame.now };
+
+    fn count(&self) -> usize {
+        self.len()
+    }
+
+    fn byte(&self, i: usize) -> u8 {
+        self[i]
+    }
+}
+
+// A line as its frame: what its digits stand for.
+#[derive(Clone, Copy)]
+pub struct Digits<'a>(pub &'a [u8]);
+
+impl<'a> Frame for Digits<'a> {
+    ghost bytes = { λ line. unhex line.0.now };
+
+    fn count(&self) -> usize {
+        self.0.len() / 2
+    }
+
+    fn byte(&self, i: usize) -> u8 {
+        byte_at(self.0, i)
+    }
+}
+
+// A field of k bytes and the place behind it, or a frame that ends before it is complete: the readers below are this at one width each.
+fn read_wide<F: Frame + Copy>(frame: F, c: Cursor, k: usize) -> Result<(u32, Cursor), Refusal>
     requires { k ≤ 4 }
-    ensures { result ≡ field_at k (unhex line.now) c.at }
+    ensures { (result ≡ field_at k (F.bytes frame) c.at) × Narrow k result }
 {
     let at = c.at;
-    let n = line.len() / 2;
+    let n = frame.count();
     if n < k {
-        return Field::Short;
+        return Err(Refusal::Misframed);
     }
     if n - k < at {
-        return Field::Short;
+        return Err(Refusal::Misframed);
     }
     let mut v: u32 = 0;
-    let mut j = 0;
-    while j < k {
-        v = v * 256 + wide(byte_at(line, at + j));
-        j += 1;
+    for j in 0..k {
+        v = v * 256 + u32::from(frame.byte(at + j));
     }
-    Field::Value(v, Cursor { at: at + k })
+    Ok((v, Cursor { at: at + k }))
 }
 
-pub fn read_u8(line: &[u8], c: Cursor) -> Field
-    ensures { result ≡ field_at 1 (unhex line.now) c.at }
+pub fn read_u8<F: Frame + Copy>(frame: F, c: Cursor) -> Result<(u32, Cursor), Refusal>
+    ensures { result ≡ field_at 1 (F.bytes frame) c.at }
 {
-    read_wide(line, c, 1)
+    read_wide(frame, c, 1)
 }
 
-pub fn read_u16(line: &[u8], c: Cursor) -> Field
-    ensures { result ≡ field_at 2 (unhex line.now) c.at }
+pub fn read_u16<F: Frame + Copy>(frame: F, c: Cursor) -> Result<(u32, Cursor), Refusal>
+    ensures { (result ≡ field_at 2 (F.bytes frame) c.at) × Narrow 2 result }
 {
-    read_wide(line, c, 2)
+    read_wide(frame, c, 2)
 }
 
-pub fn read_u32(line: &[u8], c: Cursor) -> Field
-    ensures { result ≡ field_at 4 (unhex line.now) c.at }
+pub fn read_u32<F: Frame + Copy>(frame: F, c: Cursor) -> Result<(u32, Cursor), Refusal>
+    ensures { result ≡ field_at 4 (F.bytes frame) c.at }
 {
-    read_wide(line, c, 4)
+    read_wide(frame, c, 4)
 }

@@ -6,14 +6,11 @@ ghost use Rattle.frame.specs.Next.{next_line};
 ghost use Rattle.frame.specs.Code.Window.{window_of};
 
 use limits::Limit;
+use refusal::Refusal;
 
-// What a slice is as a line.
+// A line's measures.
 #[derive(Clone, Copy)]
-pub enum Line {
-    // A frame of so many bytes.
-    Frame(usize),
-    Malformed,
-}
+pub struct Line {}
 
 impl Line {
     // The most digits of an input line: those of the longest record.
@@ -52,7 +49,7 @@ pub enum Next {
 fn below(a: u8, b: u8) -> u8
     ensures { (result ≡ cond (ltb a b) 1 0) × (result ≤ 1) }
 {
-    if a < b { 1 } else { 0 }
+    u8::from(a < b)
 }
 
 // How often a byte is on the wrong side of two others: 0 from `first` to `last`, else 1 where first is at most last.
@@ -62,25 +59,11 @@ fn outside(d: u8, first: u8, last: u8) -> u8
     below(d, first) + below(last, d)
 }
 
-// The lower of two numbers.
-fn lower(a: u8, b: u8) -> u8
-    ensures { result ≡ cond (ltb a b) a b }
-{
-    if a < b { a } else { b }
-}
-
-// The higher of two numbers.
-fn higher(a: u8, b: u8) -> u8
-    ensures { result ≡ cond (ltb a b) b a }
-{
-    if a < b { b } else { a }
-}
-
 // 0 for a digit, else 1.
 fn other(d: u8) -> u8
     ensures { result ≡ cond (is_digit d) 0 1 }
 {
-    lower(outside(d, b'0', b'9'), outside(d, b'a', b'f'))
+    outside(d, b'0', b'9').min(outside(d, b'a', b'f'))
 }
 
 // Whether one of the first m bytes is no digit. Every one is looked at, with no way out before the last, so that many are looked at at once.
@@ -89,37 +72,35 @@ fn has_other(line: &[u8], m: usize) -> bool
     ensures { result ≡ not (all_digits (take m line.now)) }
 {
     let mut found: u8 = 0;
-    let mut i = 0;
-    while i < m {
-        found = higher(found, other(line[i]));
-        i += 1;
+    for &d in &line[..m] {
+        found = found.max(other(d));
     }
     found != 0
 }
 
-// A line of at most so many digits. Listing lines are longer than input lines, so the limit is the caller's.
-pub fn line_within(line: &[u8], most: usize) -> Line
+// A line of at most so many digits: how many bytes its frame has. Listing lines are longer than input lines, so the limit is the caller's.
+pub fn line_within(line: &[u8], most: usize) -> Result<usize, Refusal>
     ensures { result ≡ line_within most line.now }
 {
     let n = line.len();
     if n % 2 == 0 {
-        return Line::Malformed;
+        return Err(Refusal::Malformed);
     }
     let m = n - 1;
     if most < m {
-        return Line::Malformed;
+        return Err(Refusal::Malformed);
     }
     if line[m] != Line::END {
-        return Line::Malformed;
+        return Err(Refusal::Malformed);
     }
     if has_other(line, m) {
-        return Line::Malformed;
+        return Err(Refusal::Malformed);
     }
-    Line::Frame(m / 2)
+    Ok(m / 2)
 }
 
 // An input line.
-pub fn line_of(line: &[u8]) -> Line
+pub fn line_of(line: &[u8]) -> Result<usize, Refusal>
     ensures { result ≡ line_of line.now }
 {
     line_within(line, Line::DIGITS)
@@ -129,11 +110,7 @@ pub fn line_of(line: &[u8]) -> Line
 fn window(n: usize) -> usize
     ensures { result ≡ window_of n }
 {
-    if n <= Line::DIGITS {
-        n
-    } else {
-        Line::DIGITS + 1
-    }
+    n.min(Line::DIGITS + 1)
 }
 
 // The first line of s. Nothing behind the longest line's end is looked at, so a caller may hand over as much as it has.
@@ -144,12 +121,8 @@ pub fn next_line(s: &[u8]) -> Next
     if m == 0 {
         return Next::Nothing;
     }
-    let mut i = 0;
-    while i < m {
-        if s[i] == Line::END {
-            return Next::Whole(i + 1);
-        }
-        i += 1;
+    if let Some(i) = s[..m].iter().position(|&b| b == Line::END) {
+        return Next::Whole(i + 1);
     }
     if m <= Line::DIGITS {
         return Next::NoEnd;

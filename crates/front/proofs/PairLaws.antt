@@ -6,20 +6,21 @@ use Prim.Native.Nat.{ℕ, zero, suc, ◌+◌, ◌*◌, ◌-◌, ◌/◌, ◌^◌
 use native.Mathlib.Omega.{arith}
 use borrow.Author.Tests.{lt-ltb, le-ltb, eq-eqb, ne_eqb}
 use lib.ListN.{length, get_or}
-use Rattle.refusal.specs.Numbers.{count_out}
+use Rattle.std.specs.Prelude.{Ok, Err}
+use Rattle.refusal.specs.Answers.{OrRefused}
+use Rattle.refusal.specs.declared.Refusal.{Refusal}
+use Rattle.refusal.specs.declared.Refusal.TheVariants.{CountOut}
 use Rattle.frame.specs.Hex.{unhex}
 use Rattle.frame.specs.Line.{line_of}
 use Rattle.frame.specs.Field.{big_at}
 use Rattle.frame.proofs.HexLaws.{byte_lt, length_unhex}
 use Rattle.frame.proofs.FieldLaws.{big_at_lt}
 use Rattle.frame.proofs.StepLaws.{past_line, past_field, past_refusal, past_limit, past_match_lem}
-use Rattle.frame.proofs.StoreLaws.{Left, left_start, length_stored}
+use Rattle.frame.proofs.StoreLaws.{length_stored}
 use Rattle.unit.specs.Kinds.{kind_pair}
 use Rattle.frame.specs.Steps.{stored_at}
 use Rattle.unit.specs.Pairs.{most_symbols, subsequences, table_length, symbol_place}
 use Rattle.front.specs.PairLine.{symbol_bytes, pair_head, pair_misframed, pair_symbols, pair_count, pair_line, symbol_list, table_by, table_after}
-use Rattle.front.specs.declared.pair_line.PairLine.{PairLine}
-use Rattle.front.specs.declared.pair_line.PairLine.TheVariants.{Count, Refused}
 
 -- ---- the symbols of a frame
 
@@ -45,13 +46,6 @@ pub symbols_none : (n : ℕ) (s : List ℕ) (i : ℕ) → n ≤ i → symbol_lis
 unfolding symbol_list
 symbols_none n s i h = let e : n - i ≡ zero = omega arith in rw e
 
--- none is stored yet
-pub symbols_start : (n : ℕ) (s t : List ℕ) (p : ℕ) → Left t (p + 0) (symbol_list (n - 0) s (pair_head + symbol_bytes * 0)) t p (symbol_list n s pair_head)
-symbols_start n s t p =
-    let e : p + 0 ≡ p = omega arith in
-    let f : n - 0 ≡ n = omega arith in
-    rw (e, f) (left_start t p (symbol_list n s pair_head))
-
 -- ---- the symbols that a count asks for
 
 -- symbol k is the number at its place
@@ -68,7 +62,7 @@ pub symbol_fits : (n : ℕ) (l : List ℕ) (at k : ℕ) → k < n → get_or (sy
 symbol_fits n l at k h = rw (symbol_at_lem n (unhex l) at k h) (big_at_lt symbol_bytes (unhex l) (at + symbol_bytes * k) (byte_lt l))
 
 module _ (l : List ℕ) (count at : ℕ) where
-  pub count_above : most_symbols < count → Refused count_out ≡ pair_symbols (unhex l) count at
+  pub count_above : most_symbols < count → Err CountOut ≡ pair_symbols (unhex l) count at
   unfolding pair_symbols
   count_above h = simp (lt-ltb most_symbols count h)
 
@@ -77,14 +71,14 @@ module _ (l : List ℕ) (count at : ℕ) where
   unfolding pair_symbols
   symbols_other h k = simp (le-ltb most_symbols count h, length_unhex, ne_eqb _ _ k)
 
-  pub symbols_just : count ≤ most_symbols → at + symbol_bytes * count ≡ length l / 2 → Count count ≡ pair_symbols (unhex l) count at
+  pub symbols_just : count ≤ most_symbols → at + symbol_bytes * count ≡ length l / 2 → Ok count ≡ pair_symbols (unhex l) count at
   unfolding pair_symbols
   symbols_just h e = simp (le-ltb most_symbols count h, length_unhex, eq-eqb _ _ e)
 
 -- ---- the whole line
 
-never : {n m : ℕ} → Refused n ≡ Count m → ⊥
-never e = let z : ◌≡◌ {A = ℕ} 0 1 = cc in omega arith
+never : {m : ℕ} (n : Refusal) → ◌≡◌ {A = OrRefused ℕ} (Err n) (Ok m) → ⊥
+never n e = let z : ◌≡◌ {A = ℕ} 0 1 = cc in omega arith
 
 -- what an accepted line is: its frame is the head and the symbols, and nothing more
 pub record IsPair (line : List ℕ) (number n : ℕ) : Type 0 where
@@ -95,24 +89,24 @@ pub record IsPair (line : List ℕ) (number n : ℕ) : Type 0 where
   pub count : big_at 2 (unhex line) 2 ≡ n
 
 -- the symbols behind the count
-symbols_counted : (s : List ℕ) (count at n : ℕ) → pair_symbols s count at ≡ Count n → (n ≤ most_symbols) × (length s ≡ at + symbol_bytes * n) × (count ≡ n)
+symbols_counted : (s : List ℕ) (count at n : ℕ) → pair_symbols s count at ≡ Ok n → (n ≤ most_symbols) × (length s ≡ at + symbol_bytes * n) × (count ≡ n)
 unfolding pair_symbols
 symbols_counted s count at n e =
-    let a = past_refusal _ never most_symbols count _ e in
-    let b = past_match_lem _ never (at + symbol_bytes * count) (length s) _ a.1 in
+    let a = past_refusal _ (never _) most_symbols count _ e in
+    let b = past_match_lem _ (never _) (at + symbol_bytes * count) (length s) _ a.1 in
     let q : count ≡ n = cc b.1 in
     (rw (← q) a.0, rw (← q) (sym b.0), q)
 
-pub pair_counted : (line : List ℕ) (number n : ℕ) → Count n ≡ pair_count line number → IsPair line number n
+pub pair_counted : (line : List ℕ) (number n : ℕ) → Ok n ≡ pair_count line number → IsPair line number n
 unfolding pair_count
 pair_counted line number n e =
     let s = unhex line in
-    let l = past_line _ never (line_of line) _ (sym e) in
-    let a = past_field _ never 1 s 0 _ l.rest in
-    let k = past_match_lem _ never _ kind_pair _ a.rest in
-    let b = past_field _ never 1 s 1 _ k.1 in
-    let m = past_match_lem _ never _ number _ b.rest in
-    let d = past_field _ never 2 s 2 _ m.1 in
+    let l = past_line {X = OrRefused ℕ} Err never (line_of line) _ (sym e) in
+    let a = past_field {X = OrRefused ℕ} Err never 1 s 0 _ l.rest in
+    let k = past_match_lem _ (never _) _ kind_pair _ a.rest in
+    let b = past_field {X = OrRefused ℕ} Err never 1 s 1 _ k.1 in
+    let m = past_match_lem _ (never _) _ number _ b.rest in
+    let d = past_field {X = OrRefused ℕ} Err never 2 s 2 _ m.1 in
     let w = symbols_counted s _ _ n d.rest in
     record { most = w.0; long = w.1; kind = k.0; sub = m.0; count = w.2 }
 
@@ -123,13 +117,14 @@ pair_shaped line number places e h = simp (eq-eqb _ _ e, lt-ltb _ _ h)
 
 -- ---- the answer and the table after it, as one
 
-module _ (line : List ℕ) (number n : ℕ) (t : List ℕ) where
-  pub table_kept : {r : PairLine} → r ≡ Refused n → r ≡ pair_line line number (length t) → (r ≡ pair_line line number (length t)) × (t ≡ table_after line number t)
+module _ (line : List ℕ) (number : ℕ) (n : Refusal) (t : List ℕ) where
+  pub table_kept : {r : OrRefused ℕ} → r ≡ Err n → r ≡ pair_line line number (length t) → (r ≡ pair_line line number (length t)) × (t ≡ table_after line number t)
   unfolding table_after table_by
   table_kept q e = (e, rw (← e, q))
 
-  pub table_stored : {u : List ℕ} {p : ℕ} → Count n ≡ pair_line line number (length t) → u ≡ stored_at t p (symbol_list n (unhex line) pair_head) → p ≡ symbol_place number 0
-      → (Count n ≡ pair_line line number (length t)) × (u ≡ table_after line number t)
+module _ (line : List ℕ) (number n : ℕ) (t : List ℕ) where
+  pub table_stored : {u : List ℕ} {p : ℕ} → Ok n ≡ pair_line line number (length t) → u ≡ stored_at t p (symbol_list n (unhex line) pair_head) → p ≡ symbol_place number 0
+      → (Ok n ≡ pair_line line number (length t)) × (u ≡ table_after line number t)
   unfolding table_after table_by
   table_stored e f g = (e, rw (← e, ← g) f)
 
@@ -141,14 +136,14 @@ pub record IsRow (line : List ℕ) (number places n : ℕ) : Type 0 where
   pub row : number < subsequences
   pub pair : IsPair line number n
 
-pub pair_accepted : (line : List ℕ) (number places n : ℕ) → Count n ≡ pair_line line number places → IsRow line number places n
+pub pair_accepted : (line : List ℕ) (number places n : ℕ) → Ok n ≡ pair_line line number places → IsRow line number places n
 unfolding pair_line
 pair_accepted line number places n e =
-    let a = past_match_lem _ never places table_length _ (sym e) in
-    let b = past_limit _ never number subsequences _ a.1 in
+    let a = past_match_lem _ (never _) places table_length _ (sym e) in
+    let b = past_limit _ (never _) number subsequences _ a.1 in
     record { table = a.0; row = b.0; pair = pair_counted line number n (sym b.1) }
 
-module _ (line : List ℕ) (number n : ℕ) (t : List ℕ) (e : Count n ≡ pair_line line number (length t)) where
+module _ (line : List ℕ) (number n : ℕ) (t : List ℕ) (e : Ok n ≡ pair_line line number (length t)) where
   -- the row's places are in the table
   pub row_fits : symbol_place number 0 + length (symbol_list n (unhex line) pair_head) ≤ length t
   row_fits =
@@ -163,6 +158,6 @@ module _ (line : List ℕ) (number n : ℕ) (t : List ℕ) (e : Count n ≡ pair
 pub length_table : (line : List ℕ) (number : ℕ) (t : List ℕ) → length (table_after line number t) ≡ length t
 length_table line number t = by (pair_line line number (length t)) refl
   where
-    by : (r : PairLine) → r ≡ pair_line line number (length t) → length (table_after line number t) ≡ length t
-    by (Count n) e = ap length (table_is line number n t e) ∙ length_stored t _ _ (row_fits line number n t e)
-    by (Refused n) e = ap length (sym (table_kept line number n t refl e).1)
+    by : (r : OrRefused ℕ) → r ≡ pair_line line number (length t) → length (table_after line number t) ≡ length t
+    by (Ok n) e = ap length (table_is line number n t e) ∙ length_stored t _ _ (row_fits line number n t e)
+    by (Err n) e = ap length (sym (table_kept line number n t refl e).1)

@@ -7,7 +7,9 @@ use native.Mathlib.Omega.{arith}
 use borrow.Author.Tests.{le-ltb}
 use lib.Dec.{lit<}
 use lib.ListN.{length, length-append, drop_of_length-le}
-use Rattle.refusal.specs.Numbers.{fine}
+use Rattle.std.specs.Prelude.{Ok, Err}
+use Rattle.refusal.specs.Answers.{OrRefused, fine}
+use Rattle.refusal.specs.declared.Refusal.{Refusal}
 use Rattle.frame.specs.Line.{line_digits, line_of, line_of_bytes}
 use Rattle.frame.specs.Field.{big_at}
 use Rattle.frame.specs.Hex.{unhex, be, Bytes}
@@ -19,7 +21,6 @@ use Rattle.unit.specs.Unit.{class_p, class_u, last_alphabet, most_segments, most
 use Rattle.unit.proofs.ValidLaws.{valid_is, valid_unit}
 use Rattle.front.specs.UnitLine.{unit_line_bytes, unit_bytes, unit_ends, unit_template, unit_class, unit_line}
 use Rattle.unit.specs.declared.Unit.{Unit}
-use Rattle.front.specs.declared.unit_line.UnitLine.TheVariants.{Read, Refused}
 use Rattle.frame.proofs.AnswerLaws.{field_cut, field_read}
 use Rattle.frame.proofs.StepLaws.{past_line, past_field, past_refusal, past_match_lem}
 
@@ -45,8 +46,8 @@ bytes_unit u =
 
 -- ---- what an accepted line is
 
-never : {n : ℕ} {u : Unit} → Refused n ≡ Read u → ⊥
-never e = let z : ◌≡◌ {A = ℕ} 0 1 = cc in omega arith
+never : {u : Unit} (n : Refusal) → ◌≡◌ {A = OrRefused Unit} (Err n) (Ok u) → ⊥
+never n e = let z : ◌≡◌ {A = ℕ} 0 1 = cc in omega arith
 
 -- the fields of a frame, in document 01's order
 abbrev pub unit_at : List ℕ → Unit
@@ -67,35 +68,35 @@ record IsEnds (s : List ℕ) (class alphabet segments sequence first : ℕ) (u :
   few : big_at 2 s 18 ≤ most_records
   long : length s ≡ unit_line_bytes
 
-ends_read : (s : List ℕ) (class alphabet segments sequence first : ℕ) (u : Unit) → unit_ends s 10 class alphabet segments sequence first ≡ Read u → IsEnds s class alphabet segments sequence first u
+ends_read : (s : List ℕ) (class alphabet segments sequence first : ℕ) (u : Unit) → unit_ends s 10 class alphabet segments sequence first ≡ Ok u → IsEnds s class alphabet segments sequence first u
 unfolding unit_ends
 ends_read s class alphabet segments sequence first u e =
-    let a = past_field _ never 4 s 10 _ e in
-    let b = past_field _ never 4 s 14 _ a.rest in
-    let d = past_refusal _ never (big_at 4 s 14) (big_at 4 s 10) _ b.rest in
-    let f = past_field _ never 2 s 18 _ d.1 in
-    let g = past_refusal _ never most_records (big_at 2 s 18) _ f.rest in
-    let h = past_refusal _ never 20 (length s) _ g.1 in
-    let k : Read (record { class = class; alphabet = alphabet; segments = segments; sequence = sequence; first = first; start = big_at 4 s 10; end = big_at 4 s 14; records = big_at 2 s 18 }) ≡ Read u = h.1 in
+    let a = past_field {X = OrRefused Unit} Err never 4 s 10 _ e in
+    let b = past_field {X = OrRefused Unit} Err never 4 s 14 _ a.rest in
+    let d = past_refusal _ (never _) (big_at 4 s 14) (big_at 4 s 10) _ b.rest in
+    let f = past_field {X = OrRefused Unit} Err never 2 s 18 _ d.1 in
+    let g = past_refusal _ (never _) most_records (big_at 2 s 18) _ f.rest in
+    let h = past_refusal _ (never _) 20 (length s) _ g.1 in
+    let k : ◌≡◌ {A = OrRefused Unit} (Ok (record { class = class; alphabet = alphabet; segments = segments; sequence = sequence; first = first; start = big_at 4 s 10; end = big_at 4 s 14; records = big_at 2 s 18 })) (Ok u) = h.1 in
     record { fields = cc; order = d.0; few = g.0; long = omega (arith, f.fits, h.0) }
 
-pub unit_accepted : (line : List ℕ) (u : Unit) → Read u ≡ unit_line line → IsUnit line u
+pub unit_accepted : (line : List ℕ) (u : Unit) → Ok u ≡ unit_line line → IsUnit line u
 unfolding unit_line unit_class unit_template
 unit_accepted line u e =
     let s = unhex line in
-    let l = past_line _ never (line_of line) _ (sym e) in
-    let a = past_field _ never 1 s 0 _ l.rest in
-    let k = past_match_lem _ never (big_at 1 s 0) kind_unit _ a.rest in
-    let b = past_field _ never 1 s 1 _ k.1 in
-    let d = past_refusal _ never (big_at 1 s 1) class_p _ b.rest in
-    let f = past_refusal _ never class_u (big_at 1 s 1) _ d.1 in
-    let g = past_field _ never 1 s 2 _ f.1 in
-    let h = past_refusal _ never last_alphabet (big_at 1 s 2) _ g.rest in
-    let i = past_field _ never 1 s 3 _ h.1 in
-    let j = past_refusal _ never most_segments (big_at 1 s 3) _ i.rest in
-    let m = past_refusal _ never (big_at 1 s 3) (least_segments (big_at 1 s 1)) _ j.1 in
-    let n = past_field _ never 2 s 4 _ m.1 in
-    let o = past_field _ never 4 s 6 _ n.rest in
+    let l = past_line {X = OrRefused Unit} Err never (line_of line) _ (sym e) in
+    let a = past_field {X = OrRefused Unit} Err never 1 s 0 _ l.rest in
+    let k = past_match_lem _ (never _) (big_at 1 s 0) kind_unit _ a.rest in
+    let b = past_field {X = OrRefused Unit} Err never 1 s 1 _ k.1 in
+    let d = past_refusal _ (never _) (big_at 1 s 1) class_p _ b.rest in
+    let f = past_refusal _ (never _) class_u (big_at 1 s 1) _ d.1 in
+    let g = past_field {X = OrRefused Unit} Err never 1 s 2 _ f.1 in
+    let h = past_refusal _ (never _) last_alphabet (big_at 1 s 2) _ g.rest in
+    let i = past_field {X = OrRefused Unit} Err never 1 s 3 _ h.1 in
+    let j = past_refusal _ (never _) most_segments (big_at 1 s 3) _ i.rest in
+    let m = past_refusal _ (never _) (big_at 1 s 3) (least_segments (big_at 1 s 1)) _ j.1 in
+    let n = past_field {X = OrRefused Unit} Err never 2 s 4 _ m.1 in
+    let o = past_field {X = OrRefused Unit} Err never 4 s 6 _ n.rest in
     let w = ends_read s (big_at 1 s 1) (big_at 1 s 2) (big_at 1 s 3) (big_at 2 s 4) (big_at 4 s 6) u o.rest in
     record {
       whole = (frame_is_line line_digits line l.bytes l.frame).line;
@@ -106,7 +107,7 @@ unit_accepted line u e =
     }
 
 -- an accepted unit is within its values
-pub unit_valid : (line : List ℕ) (u : Unit) → Read u ≡ unit_line line → unit_refusal u ≡ fine
+pub unit_valid : (line : List ℕ) (u : Unit) → Ok u ≡ unit_line line → unit_refusal u ≡ fine
 unit_valid line u e = (unit_accepted line u e).valid
 
 -- and its numbers fit their fields; the others are within their values
@@ -116,7 +117,7 @@ pub record UnitFits (u : Unit) : Type 0 where
   pub start : u.start < 256 ^ 4
   pub end : u.end < 256 ^ 4
 
-pub unit_fits : (line : List ℕ) (u : Unit) → Read u ≡ unit_line line → UnitFits u
+pub unit_fits : (line : List ℕ) (u : Unit) → Ok u ≡ unit_line line → UnitFits u
 unit_fits line u e =
     let s = unhex line in
     rw (unit_accepted line u e).fields
@@ -130,7 +131,7 @@ unit_fits line u e =
 -- ---- there and back
 
 -- the bytes of an accepted line are the unit's
-pub unit_bytes_lem : (line : List ℕ) (u : Unit) → Read u ≡ unit_line line → unhex line ≡ unit_bytes u
+pub unit_bytes_lem : (line : List ℕ) (u : Unit) → Ok u ≡ unit_line line → unhex line ≡ unit_bytes u
 unfolding unit_bytes
 unit_bytes_lem line u e =
     let w = unit_accepted line u e in
@@ -160,7 +161,7 @@ unfolding unit_bytes
 nested u = simp (append_assoc, append-nil)
 
 -- the line of a unit within its values is read back as the unit
-pub unit_back : (u : Unit) → unit_refusal u ≡ fine → UnitFits u → unit_line (line_of_bytes (unit_bytes u)) ≡ Read u
+pub unit_back : (u : Unit) → unit_refusal u ≡ fine → UnitFits u → unit_line (line_of_bytes (unit_bytes u)) ≡ Ok u
 unfolding unit_line unit_class unit_template unit_ends
 unit_back u valid fits =
     let bs = unit_bytes u in

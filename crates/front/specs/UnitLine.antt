@@ -1,18 +1,15 @@
 -- The unit line (document 01, Lines: 01 unit): fields left to right, each checked when it is complete, left-over bytes last.
 -- Assumes nothing.
-use Rattle.std.specs.Prelude.{cond, List, ◌++◌, ℕ, eqb, ltb, length}
-use Rattle.refusal.specs.Numbers.{fine, misframed, unit_out}
+use Rattle.std.specs.Prelude.{cond, List, ◌++◌, ℕ, eqb, ltb, length, Ok, Err}
+use Rattle.refusal.specs.Answers.{OrRefused}
+use Rattle.refusal.specs.declared.Refusal.TheVariants.{Misframed, UnitOut}
 use Rattle.frame.specs.Hex.{unhex, be}
-use Rattle.frame.specs.Line.{line_of, line_number}
-use Rattle.frame.specs.Field.{with_field, field_number}
-use Rattle.frame.specs.declared.line.Line.TheVariants.{Malformed}
-use Rattle.frame.specs.declared.field.Field.TheVariants.{Short}
+use Rattle.frame.specs.Line.{line_of}
+use Rattle.frame.specs.Field.{with_field}
 use Rattle.unit.specs.Kinds.{kind_unit}
 use Rattle.frame.specs.Steps.{unless, after_line}
 use Rattle.unit.specs.Unit.{class_p, class_u, last_alphabet, most_segments, least_segments, most_records}
 use Rattle.unit.specs.declared.Unit.{Unit}
-use Rattle.front.specs.declared.unit_line.UnitLine.{UnitLine}
-use Rattle.front.specs.declared.unit_line.UnitLine.TheVariants.{Read, Refused}
 
 -- the bytes of the unit line
 abbrev pub unit_line_bytes : ℕ
@@ -24,58 +21,49 @@ unit_bytes u =
     be 1 kind_unit ++ be 1 u.class ++ be 1 u.alphabet ++ be 1 u.segments ++ be 2 u.sequence
     ++ be 4 u.first ++ be 4 u.start ++ be 4 u.end ++ be 2 u.records
 
--- a frame that ends before a field is complete
-abbrev pub unit_short : UnitLine
-unit_short = Refused (field_number Short)
-
 -- another kind, or bytes left over
-abbrev pub unit_misframed : UnitLine
-unit_misframed = Refused misframed
+abbrev pub unit_misframed : OrRefused Unit
+unit_misframed = Err Misframed
 
 -- a field outside its values
-abbrev pub unit_field_out : UnitLine
-unit_field_out = Refused unit_out
+abbrev pub unit_field_out : OrRefused Unit
+unit_field_out = Err UnitOut
 
 -- AU start, AU end (not below start), record count, and nothing behind it
-unfoldable pub unit_ends : (frame : List ℕ) (at class alphabet segments sequence first : ℕ) → UnitLine
+unfoldable pub unit_ends : (frame : List ℕ) (at class alphabet segments sequence first : ℕ) → OrRefused Unit
 unit_ends frame at class alphabet segments sequence first =
-    with_field unit_short 4 frame at (λ start at2.
-    with_field unit_short 4 frame at2 (λ end at3.
+    with_field Err 4 frame at (λ start at2.
+    with_field Err 4 frame at2 (λ end at3.
     cond (ltb end start) unit_field_out
-    (with_field unit_short 2 frame at3 (λ records at4.
+    (with_field Err 2 frame at3 (λ records at4.
     cond (ltb most_records records) unit_field_out
     (cond (ltb at4 (length frame)) unit_misframed
-    (Read (record { class = class; alphabet = alphabet; segments = segments; sequence = sequence; first = first; start = start; end = end; records = records })))))))
+    (Ok (record { class = class; alphabet = alphabet; segments = segments; sequence = sequence; first = first; start = start; end = end; records = records })))))))
 
 -- template segments (1 or 2; HM needs 2), sequence id, position of the first lent reference base
-unfoldable pub unit_template : (frame : List ℕ) (at class alphabet : ℕ) → UnitLine
+unfoldable pub unit_template : (frame : List ℕ) (at class alphabet : ℕ) → OrRefused Unit
 unit_template frame at class alphabet =
-    with_field unit_short 1 frame at (λ segments at2.
+    with_field Err 1 frame at (λ segments at2.
     cond (ltb most_segments segments) unit_field_out
     (cond (ltb segments (least_segments class)) unit_field_out
-    (with_field unit_short 2 frame at2 (λ sequence at3.
-    with_field unit_short 4 frame at3 (λ first at4.
+    (with_field Err 2 frame at2 (λ sequence at3.
+    with_field Err 4 frame at3 (λ first at4.
     unit_ends frame at4 class alphabet segments sequence first)))))
 
 -- class (1 to 6), alphabet (0 or 1)
-unfoldable pub unit_class : (frame : List ℕ) (at : ℕ) → UnitLine
+unfoldable pub unit_class : (frame : List ℕ) (at : ℕ) → OrRefused Unit
 unit_class frame at =
-    with_field unit_short 1 frame at (λ class at2.
+    with_field Err 1 frame at (λ class at2.
     cond (ltb class class_p) unit_field_out
     (cond (ltb class_u class) unit_field_out
-    (with_field unit_short 1 frame at2 (λ alphabet at3.
+    (with_field Err 1 frame at2 (λ alphabet at3.
     cond (ltb last_alphabet alphabet) unit_field_out
     (unit_template frame at3 class alphabet)))))
 
 -- hexadecimal, kind 01, then the fields
-unfoldable pub unit_line : List ℕ → UnitLine
+unfoldable pub unit_line : List ℕ → OrRefused Unit
 unit_line line =
-    after_line (Refused (line_number Malformed)) (line_of line)
-    (with_field unit_short 1 (unhex line) 0 (λ kind at.
+    after_line Err (line_of line)
+    (with_field Err 1 (unhex line) 0 (λ kind at.
     unless (eqb kind kind_unit) unit_misframed
     (unit_class (unhex line) at)))
-
--- document 01's number of an answer
-abbrev pub unit_number : UnitLine → ℕ
-unit_number (Read u) = fine
-unit_number (Refused n) = n

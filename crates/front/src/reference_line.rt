@@ -4,70 +4,57 @@ ghost use Rattle.frame.specs.Hex.{unhex};
 ghost use Rattle.frame.specs.Steps.{stored_at};
 ghost use Rattle.front.specs.ReferenceLine.{most_line_bases, bases_of, added_bases, reference_line, reference_after};
 
-use frame::field::{Cursor, Field, byte_at, read_u8};
-use frame::line::{Line, line_of};
+use frame::field::{Cursor, Digits, byte_at, read_u8};
+use frame::line::line_of;
+use refusal::Refusal;
 use unit::Unit;
 use unit::kind::Kind;
 
-// What a reference line says.
-#[derive(Clone, Copy)]
-pub enum ReferenceLine {
-    // So many bases are there now, those of earlier lines among them.
-    Bases(usize),
-    Refused(u32),
-}
+// The most symbol indexes of a line.
+pub const BASES: usize = 1_000;
 
-impl ReferenceLine {
-    // The most symbol indexes of a line.
-    pub const BASES: usize = 1_000;
-
-    // The number is its name in specs/: proved, and called by nothing.
-    fn tied() -> usize
-        ensures { result ≡ most_line_bases }
-    {
-        ReferenceLine::BASES
-    }
+// The number is its name in specs/: proved, and called by nothing.
+fn tied() -> usize
+    ensures { result ≡ most_line_bases }
+{
+    BASES
 }
 
 // The answer to n bases more, where places are lent and used of them hold a base.
-fn add_bases(n: usize, used: usize, places: usize) -> ReferenceLine
+fn add_bases(n: usize, used: usize, places: usize) -> Result<usize, Refusal>
     ensures { result ≡ added_bases n used places }
 {
     if n < 1 {
-        return ReferenceLine::Refused(refusal::MISFRAMED);
+        return Err(Refusal::Misframed);
     }
-    if ReferenceLine::BASES < n {
-        return ReferenceLine::Refused(refusal::MISFRAMED);
+    if BASES < n {
+        return Err(Refusal::Misframed);
     }
     if places < used {
-        return ReferenceLine::Refused(refusal::MISFRAMED);
+        return Err(Refusal::Misframed);
     }
     // The sum below fits only where this holds.
     if Unit::REFERENCE < used {
-        return ReferenceLine::Refused(refusal::MISFRAMED);
+        return Err(Refusal::Misframed);
     }
     let all = used + n;
     if Unit::REFERENCE < all {
-        return ReferenceLine::Refused(refusal::MISFRAMED);
+        return Err(Refusal::Misframed);
     }
     if places < all {
-        return ReferenceLine::Refused(refusal::NO_ROOM);
+        return Err(Refusal::NoRoom);
     }
-    ReferenceLine::Bases(all)
+    Ok(all)
 }
 
 // The line without its bases' values.
-fn read_count(line: &[u8], used: usize, places: usize) -> ReferenceLine
+fn read_count(line: &[u8], used: usize, places: usize) -> Result<usize, Refusal>
     ensures { result ≡ reference_line line.now used places }
 {
-    let Line::Frame(_) = line_of(line) else {
-        return ReferenceLine::Refused(refusal::MALFORMED);
-    };
-    let Field::Value(kind, _) = read_u8(line, Cursor { at: 0 }) else {
-        return ReferenceLine::Refused(refusal::MISFRAMED);
-    };
+    line_of(line)?;
+    let (kind, _) = read_u8(Digits(line), Cursor { at: 0 })?;
     if kind != Kind::REFERENCE {
-        return ReferenceLine::Refused(refusal::MISFRAMED);
+        return Err(Refusal::Misframed);
     }
     let n = line.len() / 2 - 1;
     add_bases(n, used, places)
@@ -78,25 +65,17 @@ fn lay_bases(line: &[u8], reference: &mut [u8], used: usize)
     requires { used + length (bases_of (unhex line.now)) ≤ length reference.old }
     ensures { reference.new ≡ stored_at reference.old used (bases_of (unhex line.now)) }
 {
-    let bytes = line.len() / 2;
-    let mut i = 1;
-    let mut place = used;
-    while i < bytes {
-        reference[place] = byte_at(line, i);
-        i += 1;
-        place += 1;
+    for i in 1..line.len() / 2 {
+        reference[used + i - 1] = byte_at(line, i);
     }
 }
 
-// A reference line, lent with its 0A, where used bases stand in the reference already.
-pub fn read(line: &[u8], reference: &mut [u8], used: usize) -> ReferenceLine
+// A reference line, lent with its 0A, where used bases stand in the reference already: how many are there now, those of earlier lines among them.
+pub fn read(line: &[u8], reference: &mut [u8], used: usize) -> Result<usize, Refusal>
     ensures value { result ≡ reference_line line.now used (length reference.old) }
     ensures reference_after { reference.new ≡ reference_after line.now used reference.old }
 {
-    let answer = read_count(line, used, reference.len());
-    let ReferenceLine::Bases(_) = answer else {
-        return answer;
-    };
+    let all = read_count(line, used, reference.len())?;
     lay_bases(line, reference, used);
-    answer
+    Ok(all)
 }

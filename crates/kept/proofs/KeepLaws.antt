@@ -1,6 +1,6 @@
 -- The laws of `Keep`: pieces one after the other are the whole, runs may be passed over at once, and what is known of a file at its end is what is kept.
 -- Assumes nothing.
-use Prim.Native.Nat.{ℕ, suc, ◌+◌, ◌-◌, ◌≤◌, ◌<◌}
+use Prim.Native.Nat.{ℕ, zero, suc, ◌+◌, ◌-◌, ◌≤◌, ◌<◌}
 use native.Mathlib.Nat.{add-zero}
 use native.Mathlib.Numerals.{add-one}
 use native.Mathlib.Omega.{arith}
@@ -8,7 +8,7 @@ use mathlib.Core.Path.{◌≡◌, refl, sym, ap, ◌∙◌}
 use mathlib.Core.Bool.{Bool, true, false, cond}
 use mathlib.Core.List.{List, [], ◌∷◌, ◌++◌, append_assoc, append-nil}
 use lib.ListN.{length, get_or, take, drop, length-append, drop_of_length-le}
-use lib.Seq.{take_at, drop_at, drop-cons, drop-drop}
+use lib.Seq.{take_at, drop_at, drop-cons}
 use lib.Dec.{eqb, leb}
 use borrow.Author.Tests.{le-leb, lt-leb, leb-true, leb-false, ne_eqb, eqb-true}
 use Rattle.frame.specs.Line.{line_end}
@@ -16,7 +16,7 @@ use Rattle.frame.proofs.HexLaws.{by_test}
 use Rattle.listing.specs.Lines.{lines_of, kept_with, kept, WholeLine, end, more}
 use Rattle.listing.specs.Resuming.{last_from, edges, edges_from, edges_of}
 use Rattle.kept.specs.Keep.{most_bytes, fresh, kept_no_more, line_kept, passed_by, keep_byte, keep_all, edges_at, Known}
-use Rattle.kept.specs.Code.Run.{run_length, RunEnd, keep_run}
+use Rattle.kept.specs.Code.Run.{run_length, keep_run}
 use Rattle.kept.specs.declared.keep.Keep.{Keep}
 use Rattle.listing.proofs.LinesLaws.{kept_line, lines_line, whole_long}
 
@@ -137,44 +137,34 @@ run_counted k n h =
 
 -- ---- the scan for the end of a run, at place i of a piece
 
-module _ (a : List ℕ) (i : ℕ) where
-  pub run_over : length a ≤ i → run_length (drop i a) ≡ 0
-  unfolding run_length
-  run_over h = rw (drop_of_length-le a {i = i} h)
-
-  module _ (h : i < length a) where
-    pub run_stops : get_or a i 0 ≤ line_end → run_length (drop i a) ≡ 0
-    unfolding run_length
-    run_stops l = rw (drop-cons a i 0 h, le-leb (get_or a i 0) line_end l)
-
-    pub run_goes : line_end < get_or a i 0 → run_length (drop i a) ≡ suc (run_length (drop (i + 1) a))
-    unfolding run_length
-    run_goes l = rw (drop-cons a i 0 h, lt-leb (get_or a i 0) line_end l, add-one)
-
 -- ---- a turn of the loop over a piece: a run, and the byte that ends it
 
-module _ {a : List ℕ} {i e : ℕ} (r : RunEnd a i e) (k : Keep) (fits : k.seen ≤ most_bytes) where
-  run_turn : keep_all k (drop i a) ≡ keep_all (keep_run k (e - i)) (drop e a)
-  run_turn =
-      let n : run_length (drop i a) ≡ e - i = omega (arith, r.at) in
-      keep_run_lem (drop i a) k fits ∙ rw (drop-drop, ← r.at, n)
+-- the first byte that is not above 0A ends the run
+pub run_found : (xs : List ℕ) (e : ℕ) → e < length xs → get_or xs e 0 ≤ line_end → ((j : ℕ) → j < e → line_end < get_or xs j 0) → run_length xs ≡ e
+unfolding run_length
+run_found [] e h l above = absurd (omega arith)
+run_found (x ∷ xs) zero h l above = rw (le-leb x line_end l) refl
+run_found (x ∷ xs) (suc e) h l above =
+    rw (lt-leb x line_end (above 0 (omega arith))) (ap suc (run_found xs e (omega arith) l (λ j m. above (suc j) (omega arith))))
 
-  -- the piece ends with the run
-  pub turn_ends : e ≡ length a → keep_all k (drop i a) ≡ keep_run k (e - i)
+-- where there is none, all of them are the run
+pub run_whole : (xs : List ℕ) → ((j : ℕ) → j < length xs → line_end < get_or xs j 0) → run_length xs ≡ length xs
+unfolding run_length
+run_whole [] above = refl
+run_whole (x ∷ xs) above = rw (lt-leb x line_end (above 0 (omega arith))) (ap suc (run_whole xs (λ j m. above (suc j) (omega arith))))
+
+module _ (xs : List ℕ) (k : Keep) (fits : k.seen ≤ most_bytes) where
+  pub turn_ends : run_length xs ≡ length xs → keep_all k xs ≡ keep_run k (length xs)
   unfolding keep_all
-  turn_ends h = run_turn ∙ rw (drop_of_length-le a {i = e} (omega arith))
+  turn_ends r = keep_run_lem xs k fits ∙ rw (r, drop_of_length-le xs {i = length xs} (omega arith))
 
-  -- it does not: what stands at the next place, and that its count fits
-  pub turn_goes : e < length a → keep_all k (drop i a) ≡ keep_all (keep_byte (keep_run k (e - i)) (get_or a e 0)) (drop (e + 1) a)
-  unfolding keep_all
-  turn_goes h = run_turn ∙ rw (drop-cons a e 0 h, add-one)
+  module _ (e : ℕ) (r : run_length xs ≡ e) where
+    pub turn_goes : e < length xs → keep_all k xs ≡ keep_all (keep_byte (keep_run k e) (get_or xs e 0)) (drop (e + 1) xs)
+    unfolding keep_all
+    turn_goes h = keep_run_lem xs k fits ∙ rw (r, drop-cons xs e 0 h, add-one)
 
-  pub turn_counted : (b : ℕ) → (keep_byte (keep_run k (e - i)) b).seen ≤ most_bytes
-  turn_counted b = byte_counted _ b (run_counted k (e - i) fits)
-
-pub piece_over : (a : List ℕ) (k : Keep) (i : ℕ) → length a ≤ i → keep_all k (drop i a) ≡ k
-unfolding keep_all
-piece_over a k i h = rw (drop_of_length-le a {i = i} h)
+  pub turn_counted : (e b : ℕ) → (keep_byte (keep_run k e) b).seen ≤ most_bytes
+  turn_counted e b = byte_counted _ b (run_counted k e fits)
 
 -- ---- a found file: whole lines, and a rest of which nothing is kept
 

@@ -1,7 +1,7 @@
 // What of a found file is kept: everything up to the last 0A before the first zero byte. The file is read in pieces of any size.
-ghost use Rattle.std.specs.Prelude.{◌≡◌, ◌+◌, ◌<◌, ◌≤◌, length};
+ghost use Rattle.std.specs.Prelude.{◌≡◌, ◌+◌, ◌<◌, ◌≤◌};
 ghost use Rattle.kept.specs.Keep.{most_bytes, fresh, kept_no_more as stoppedAt, line_kept, passed_by, keep_byte, keep_all};
-ghost use Rattle.kept.specs.Code.Run.{keep_run, RunEnd};
+ghost use Rattle.kept.specs.Code.Run.{keep_run};
 
 use frame::line::Line;
 
@@ -46,13 +46,7 @@ impl Keep {
     fn stopped(self) -> Keep
         ensures { result ≡ stoppedAt self }
     {
-        Keep {
-            first: self.first,
-            last: self.last,
-            kept: self.kept,
-            seen: self.seen,
-            done: true,
-        }
+        Keep { done: true, ..self }
     }
 
     fn passed_by(self, n: usize) -> Keep
@@ -60,11 +54,9 @@ impl Keep {
         ensures { result ≡ passed_by self n }
     {
         Keep {
-            first: self.first,
-            last: self.last,
-            kept: self.kept,
             seen: self.seen + n,
             done: false,
+            ..self
         }
     }
 
@@ -73,17 +65,8 @@ impl Keep {
         ensures { result ≡ line_kept self }
     {
         let end = self.seen + 1;
-        if self.first == 0 {
-            return Keep {
-                first: end,
-                last: self.kept,
-                kept: end,
-                seen: end,
-                done: false,
-            };
-        }
         Keep {
-            first: self.first,
+            first: if self.first == 0 { end } else { self.first },
             last: self.kept,
             kept: end,
             seen: end,
@@ -129,34 +112,15 @@ impl Keep {
         ensures { result ≡ keep_all self piece.now }
     {
         let mut k = self;
-        let mut i = 0;
-        while i < piece.len() {
-            if k.done {
-                return k;
-            }
-            let at = run_end(piece, i);
-            k = k.run(at - i);
-            if at == piece.len() {
-                return k;
-            }
-            k = k.byte(piece[at]);
-            i = at + 1;
+        let mut rest = piece;
+        while !k.done {
+            // Every digit is above 0A, so that a run of them takes one test a byte.
+            let Some(end) = rest.iter().position(|&b| b <= Line::END) else {
+                return k.run(rest.len());
+            };
+            k = k.run(end).byte(rest[end]);
+            rest = &rest[end + 1..];
         }
         k
     }
-}
-
-// Where the run of bytes above 0A that starts at `from` ends. Every digit is above 0A, so this takes one test a byte.
-fn run_end(piece: &[u8], from: usize) -> usize
-    requires { from ≤ length piece.now }
-    ensures { RunEnd piece.now from result }
-{
-    let mut i = from;
-    while i < piece.len() {
-        if piece[i] <= Line::END {
-            return i;
-        }
-        i += 1;
-    }
-    i
 }

@@ -7,6 +7,7 @@ use mathlib.Core.Bool.{Bool, true, false, not}
 use mathlib.Core.List.{List}
 use lib.Dec.{eqb, ltb}
 use lib.ListN.{length}
+use Rattle.refusal.specs.declared.Refusal.{Refusal}
 use Rattle.frame.proofs.HexLaws.{by_test}
 use Rattle.unit.specs.Pairs.{subsequences}
 use Rattle.state.specs.Listed.{index_place, Step, refused, accepted, state_at}
@@ -20,7 +21,7 @@ use Rattle.listing.specs.Resuming.{Last, Edges, nothing, edges, on_last, place_b
 use Rattle.listing.proofs.LastLaws.{Sorted, listed, closed05, closed06, other, sorted}
 use Rattle.state.proofs.HeadLaws.{length_words_at}
 use Rattle.state.proofs.NumberLaws.{state_again, length_state}
-use Rattle.resuming.specs.Last.{placed_of}
+use Rattle.resuming.specs.Last.{placed_of, state_to}
 use Rattle.kept.specs.declared.keep.Keep.{Keep}
 use Rattle.lampbuckle.specs.Numbers.{unit_numbers, unit_of, flag, keep_numbers, keep_of}
 use Rattle.state.specs.Numbers.{state_numbers, state_of}
@@ -56,22 +57,22 @@ next_state_again u reference symbols counts numbers line room frame next e = sta
         rw (← z) (step_shaped u reference symbols counts (state_of numbers) line g s q (length_state numbers)))
         (λ t. absurd (differs (simp t at r)))
       where
-        differs : {n : ℕ} → refused n ≡ accepted frame next → ⊥
+        differs : {n : Refusal} → refused n ≡ accepted frame next → ⊥
         differs d = let z : ◌≡◌ {A = ℕ} 0 1 = cc in omega arith
 
 -- the state that `lampbuckle_place` lays
 pub place_state_again : (first : List ℕ) (count : ℕ) (counts : List ℕ) (e : Edges) → length counts ≡ subsequences
-    → state_of (state_numbers (placed_of (place_by first count counts e)).state) ≡ (placed_of (place_by first count counts e)).state
-unfolding placed_of state_at
-place_state_again first count counts e shaped = state_again (placed_of (place_by first count counts e)).state (by e)
+    → state_of (state_numbers (state_to (placed_of (place_by first count counts e)))) ≡ state_to (placed_of (place_by first count counts e))
+unfolding placed_of state_to state_at
+place_state_again first count counts e shaped = state_again (state_to (placed_of (place_by first count counts e))) (by e)
   where
-    said : (z : List ℕ) {t : Last} → Sorted count counts z t → length (placed_of (on_last t)).state.index ≡ index_count
+    said : (z : List ℕ) {t : Last} → Sorted count counts z t → length (state_to (placed_of (on_last t))).index ≡ index_count
     said z (listed w) = length_words_at index_count (unhex z) index_place
     said z (closed05 w) = refl
     said z (closed06 w) = refl
     said z (other a b d) = refl
 
-    by : (e : Edges) → length (placed_of (place_by first count counts e)).state.index ≡ index_count
+    by : (e : Edges) → length (state_to (placed_of (place_by first count counts e))).index ≡ index_count
     by nothing = refl
     by (edges a z) =
         by_test (same_list a first)

@@ -7,8 +7,12 @@ use native.Mathlib.Omega.{arith}
 use lib.Dec.{eqb, ltb}
 use lib.IntN.{ℤ, pos}
 use lib.ListN.{length}
-use borrow.Author.Tests.{ltb-true, eqb-true, eqb-false, eq-eqb}
-use Rattle.refusal.specs.Numbers.{fine}
+use borrow.Author.Tests.{ltb-true, eqb-true, eq-eqb}
+use Rattle.std.specs.Prelude.{⊤, Ok, Err}
+use Rattle.refusal.specs.declared.Refusal.{Refusal}
+use Rattle.refusal.specs.Numbers.{number_of}
+use Rattle.refusal.specs.Answers.{OrRefused, fine}
+use Rattle.refusal.proofs.AnswerLaws.{never_accepted}
 use Rattle.frame.proofs.HexLaws.{by_test}
 use Rattle.unit.specs.Unit.{most_records}
 use Rattle.state.specs.Listed.{Step, refused, accepted}
@@ -16,7 +20,6 @@ use Rattle.unit.specs.declared.Unit.{Unit}
 use Rattle.state.specs.declared.State.{State}
 use Rattle.plan.specs.Lent.{lent_refusal}
 use Rattle.record.specs.Record.{with_room, step_of, record_of, recorded, output}
-use Rattle.record.specs.declared.Answer.TheVariants as answer
 use Rattle.record.specs.declared.Recorded.{Recorded}
 use Rattle.record.proofs.CallLaws.{lent_refused, number_fits}
 use Rattle.lampbuckle.specs.Answer.{minus, outcome}
@@ -26,10 +29,7 @@ use Rattle.lampbuckle.specs.Call.{record_answered, record_call}
 
 -- ---- a step, by the code's answer
 
-other : {n m : ℕ} → answer.Listed n ≡ answer.Refused m → ⊥
-other e = let z : ◌≡◌ {A = ℕ} 0 1 = cc in omega arith
-
-differs : {n : ℕ} {frame : List ℕ} {next : State} → refused n ≡ accepted frame next → ⊥
+differs : {n : Refusal} {frame : List ℕ} {next : State} → refused n ≡ accepted frame next → ⊥
 differs e = let z : ◌≡◌ {A = ℕ} 0 1 = cc in omega arith
 
 -- an accepted step, of so many bytes
@@ -40,27 +40,27 @@ record Is (n : ℕ) (x : Step) : Type 0 where
   long : n ≡ 2 * length frame + 1
 
 module _ (given : State) {r : Recorded} where
-  step_refused : (x : Step) (state out : List ℕ) {after : List ℕ} {n : ℕ} {a : ℤ} → r ≡ recorded given x → after ≡ output out x → r.answer ≡ answer.Refused n → a ≡ minus n
+  step_refused : (x : Step) (state out : List ℕ) {after : List ℕ} {n : Refusal} {a : ℤ} → r ≡ recorded given x → after ≡ output out x → r.answer ≡ Err n → a ≡ minus (number_of n)
       → outcome a (state ∷ after ∷ []) ≡ record_answered x state out
   step_refused (refused m) state out {after} {n} e o h s =
-      let f : answer.Refused m ≡ answer.Refused n = sym (ap (λ (q : Recorded). q.answer) e) ∙ h in
+      let f : ◌≡◌ {A = OrRefused ℕ} (Err m) (Err n) = sym (ap (λ (q : Recorded). q.answer) e) ∙ h in
       let g : m ≡ n = cc in
       rw (s, o, g)
-  step_refused (accepted frame next) state out e o h s = absurd (other (sym (ap (λ (q : Recorded). q.answer) e) ∙ h))
+  step_refused (accepted frame next) state out e o h s = never_accepted (sym (ap (λ (q : Recorded). q.answer) e) ∙ h)
 
-  step_listed : (x : Step) (state out : List ℕ) {after lent : List ℕ} {n : ℕ} {a : ℤ} → r ≡ recorded given x → after ≡ output out x → r.answer ≡ answer.Listed n → lent ≡ state_numbers r.state → a ≡ pos n
+  step_listed : (x : Step) (state out : List ℕ) {after lent : List ℕ} {n : ℕ} {a : ℤ} → r ≡ recorded given x → after ≡ output out x → r.answer ≡ Ok n → lent ≡ state_numbers r.state → a ≡ pos n
       → outcome a (lent ∷ after ∷ []) ≡ record_answered x state out
-  step_listed (refused m) state out e o h l s = absurd (other (sym h ∙ ap (λ (q : Recorded). q.answer) e))
+  step_listed (refused m) state out e o h l s = never_accepted (sym h ∙ ap (λ (q : Recorded). q.answer) e)
   step_listed (accepted frame next) state out {after} {lent} {n} e o h l s =
-      let f : answer.Listed (2 * length frame + 1) ≡ answer.Listed n = sym (ap (λ (q : Recorded). q.answer) e) ∙ h in
+      let f : ◌≡◌ {A = OrRefused ℕ} (Ok (2 * length frame + 1)) (Ok n) = sym (ap (λ (q : Recorded). q.answer) e) ∙ h in
       let g : 2 * length frame + 1 ≡ n = cc in
       let k : lent ≡ state_numbers next = l ∙ ap (λ (q : Recorded). state_numbers q.state) e in
       rw (s, o, ← g, k)
 
-  listed_is : (x : Step) {n : ℕ} → r ≡ recorded given x → r.answer ≡ answer.Listed n → Is n x
-  listed_is (refused m) e h = absurd (other (sym h ∙ ap (λ (q : Recorded). q.answer) e))
+  listed_is : (x : Step) {n : ℕ} → r ≡ recorded given x → r.answer ≡ Ok n → Is n x
+  listed_is (refused m) e h = never_accepted (sym h ∙ ap (λ (q : Recorded). q.answer) e)
   listed_is (accepted frame next) {n} e h =
-      let f : answer.Listed (2 * length frame + 1) ≡ answer.Listed n = sym (ap (λ (q : Recorded). q.answer) e) ∙ h in
+      let f : ◌≡◌ {A = OrRefused ℕ} (Ok (2 * length frame + 1)) (Ok n) = sym (ap (λ (q : Recorded). q.answer) e) ∙ h in
       record { frame = frame; next = next; step = refl; long = cc }
 
 -- ---- what an accepted call says of what is lent
@@ -79,10 +79,11 @@ module _ (u : Unit) (reference symbols counts state line : List ℕ) (room : ℕ
     (e : record_of u reference symbols counts (state_of state) line room ≡ accepted frame next) where
   -- what is lent is accepted
   lent_fine : lent_refusal u (length reference) (length symbols) counts (state_of state) ≡ fine
-  lent_fine =
-      by_test (eqb (lent_refusal u (length reference) (length symbols) counts (state_of state)) fine)
-      (λ t. eqb-true _ _ t)
-      (λ t. absurd (differs (sym (lent_refused u reference symbols counts (state_of state) refl line room (eqb-false _ _ t)) ∙ e)))
+  lent_fine = by (lent_refusal u (length reference) (length symbols) counts (state_of state)) refl
+    where
+      by : (r : OrRefused ⊤) → lent_refusal u (length reference) (length symbols) counts (state_of state) ≡ r → lent_refusal u (length reference) (length symbols) counts (state_of state) ≡ fine
+      by (Ok t) q = q
+      by (Err n) q = absurd (differs (sym (lent_refused u reference symbols counts (state_of state) refl line room n q) ∙ e))
 
   -- so the state is nine numbers: others are a state that no unit has
   state_nine : length state ≡ state_length
@@ -97,24 +98,24 @@ module _ (u : Unit) (reference symbols counts state line : List ℕ) (room : ℕ
 
 module _ (unit reference symbols counts state line out : List ℕ) where
   module _ {u : Unit} {given : State} (is-unit : u ≡ unit_of unit) (is_state : given ≡ state_of state) {r : Recorded} {after : List ℕ}
-      (is : (r ≡ recorded given (record_of u reference symbols counts given line (length out))) × (after ≡ output out (record_of u reference symbols counts given line (length out)))) {n : ℕ} where
-    pub record_refused : {a : ℤ} → length unit ≡ unit_length → r.answer ≡ answer.Refused n → a ≡ minus n → outcome a (state ∷ after ∷ []) ≡ record_call unit reference symbols counts state line out
+      (is : (r ≡ recorded given (record_of u reference symbols counts given line (length out))) × (after ≡ output out (record_of u reference symbols counts given line (length out)))) where
+    pub record_refused : {n : Refusal} {a : ℤ} → length unit ≡ unit_length → r.answer ≡ Err n → a ≡ minus (number_of n) → outcome a (state ∷ after ∷ []) ≡ record_call unit reference symbols counts state line out
     unfolding record_call
     record_refused shape h e = rw (eq-eqb _ _ shape, ← is-unit, ← is_state) (step_refused given (record_of u reference symbols counts given line (length out)) state out is.0 is.1 h e)
 
-    pub record_listed : {a : ℤ} {lent : List ℕ} → length unit ≡ unit_length → r.answer ≡ answer.Listed n → lent ≡ state_numbers r.state → a ≡ pos n
+    pub record_listed : {n : ℕ} {a : ℤ} {lent : List ℕ} → length unit ≡ unit_length → r.answer ≡ Ok n → lent ≡ state_numbers r.state → a ≡ pos n
         → outcome a (lent ∷ after ∷ []) ≡ record_call unit reference symbols counts state line out
     unfolding record_call
     record_listed shape h l e = rw (eq-eqb _ _ shape, ← is-unit, ← is_state) (step_listed given (record_of u reference symbols counts given line (length out)) state out is.0 is.1 h l e)
 
     -- a line has fewer bytes than are lent
-    pub record_counted : r.answer ≡ answer.Listed n → length out < 2 ^ 63 → n < 2 ^ 63
+    pub record_counted : {n : ℕ} → r.answer ≡ Ok n → length out < 2 ^ 63 → n < 2 ^ 63
     unfolding record_of
     record_counted h k =
         let w = listed_is given (record_of u reference symbols counts given line (length out)) is.0 h in
         omega (arith, w.long, room_taken (step_of u reference symbols counts given line) (length out) w.frame w.next w.step)
 
-    pub record_nine : r.answer ≡ answer.Listed n → length state ≡ state_length
+    pub record_nine : {n : ℕ} → r.answer ≡ Ok n → length state ≡ state_length
     record_nine h =
         let w = listed_is given (record_of u reference symbols counts given line (length out)) is.0 h in
         state_nine u reference symbols counts state line (length out) {frame = w.frame} {next = w.next} (rw (← is_state) w.step)

@@ -1,13 +1,13 @@
 -- The laws of the calls for going on: each way that a call ends, from what the listing's own functions answered.
 -- Assumes nothing.
-use mathlib.Core.Path.{◌≡◌}
+use mathlib.Core.Path.{◌≡◌, refl}
 use mathlib.Core.Bool.{Bool, true, false}
 use mathlib.Core.List.{List, [], ◌∷◌}
 use Prim.Native.Nat.{ℕ, ◌^◌, ◌<◌}
 use native.Mathlib.Omega.{arith}
-use lib.Dec.{lit<}
 use lib.IntN.{ℤ, pos}
 use lib.ListN.{length, get_or}
+use mir.Val.{bool_byte}
 use borrow.Author.Tests.{eq-eqb}
 use Rattle.unit.specs.Pairs.{subsequences}
 use Rattle.kept.specs.Keep.{keep_all}
@@ -17,17 +17,18 @@ use Rattle.listing.specs.Resuming.{edges_from, place_by}
 use Rattle.resuming.specs.Last.{placed_of}
 use Rattle.kept.specs.declared.keep.Keep.{Keep}
 use Rattle.resuming.specs.declared.pass.Passed.{Passed}
-use Rattle.resuming.specs.declared.place.WhereTo.{WhereTo}
+use Rattle.resuming.specs.declared.place.Go.{Go}
 use Rattle.lampbuckle.specs.Answer.{Outcome, outcome}
 use Rattle.lampbuckle.specs.Numbers.{keep_length, flag, keep_numbers, keep_of}
 use Rattle.state.specs.Numbers.{state_length}
-use Rattle.lampbuckle.specs.Resume.{keep_call, by_go, place_call, wanted_length, pass_call}
+use Rattle.lampbuckle.specs.Resume.{keep_call, place_answered, place_call, wanted_length, pass_call}
 
 -- ---- what is kept
 
-pub flag_counted : (b : Bool) {n : ℕ} → n ≡ flag b → n < 2 ^ 63
-flag_counted true e = rw e (lit< tt)
-flag_counted false e = rw e (lit< tt)
+-- 1 for true, as the code makes it
+pub flag_is : (b : Bool) → bool_byte b ≡ flag b
+flag_is true = refl
+flag_is false = refl
 
 module _ (piece lent : List ℕ) {a : ℤ} where
   pub keep_gone : length lent ≡ keep_length → {before k : Keep} {after : List ℕ} {n : ℕ} → before ≡ keep_of lent → k ≡ keep_all before piece → after ≡ keep_numbers k → n ≡ flag k.done → a ≡ pos n
@@ -39,7 +40,7 @@ module _ (piece lent : List ℕ) {a : ℤ} where
 
 module _ (listed : List ℕ) (count : ℕ) (counts first last lent : List ℕ) where
   module _ (shape : length counts ≡ subsequences) where
-    pub place_found : length lent ≡ state_length → {p : WhereTo} {x : Outcome} → p ≡ placed_of (place_by listed count counts (edges_from first last)) → x ≡ by_go p.go p.state lent
+    pub place_found : length lent ≡ state_length → {go : Go} {x : Outcome} → go ≡ placed_of (place_by listed count counts (edges_from first last)) → x ≡ place_answered go lent
         → x ≡ place_call listed count counts first last lent
     unfolding place_call
     place_found h p e = rw (eq-eqb _ _ shape, eq-eqb _ _ h, ← p) e

@@ -7,10 +7,12 @@ use native.Mathlib.Omega.{arith}
 use lib.Dec.{ltb}
 use lib.IntN.{ℤ}
 use lib.ListN.{length}
-use borrow.Author.Tests.{ltb-true, eq-eqb, ne_eqb}
-use Rattle.refusal.specs.Numbers.{fine}
+use borrow.Author.Tests.{ltb-true, eq-eqb}
+use Rattle.std.specs.Prelude.{⊤, Ok, Err}
+use Rattle.refusal.specs.declared.Refusal.{Refusal}
+use Rattle.refusal.specs.Numbers.{number_of}
+use Rattle.refusal.specs.Answers.{OrRefused}
 use Rattle.writing.specs.Whole.{wrote_of, line_into}
-use Rattle.writing.specs.declared.lay.Wrote.{Wrote}
 use Rattle.frame.proofs.HexLaws.{by_test}
 use Rattle.unit.specs.Unit.{unit_refusal}
 use Rattle.front.specs.UnitLine.{unit_bytes}
@@ -20,7 +22,7 @@ use Rattle.lampbuckle.specs.Numbers.{unit_length, unit_of, unit_numbers_refusal}
 use Rattle.lampbuckle.specs.Write.{wrote, written_call, unit_written}
 use Rattle.lampbuckle.specs.Code.Countable.{Countable}
 
-module _ (frame out : List ℕ) {r : Wrote} {after : List ℕ} (is : (r ≡ wrote_of out frame) × (after ≡ line_into out frame)) where
+module _ (frame out : List ℕ) {r : OrRefused ℕ} {after : List ℕ} (is : (r ≡ wrote_of out frame) × (after ≡ line_into out frame)) where
   -- a line has fewer bytes than are lent
   pub line_counted : length out < 2 ^ 63 → Countable r
   unfolding wrote_of
@@ -37,12 +39,12 @@ module _ (frame out : List ℕ) {r : Wrote} {after : List ℕ} (is : (r ≡ wrot
 -- ---- the unit line
 
 module _ (numbers out : List ℕ) {a : ℤ} where
-  module _ (shape : length numbers ≡ unit_length) {u : Unit} (is : u ≡ unit_of numbers) {n : ℕ} (by : n ≡ unit_refusal u) where
-    pub unit_written_refused : (n ≡ fine → ⊥) → a ≡ minus n → outcome a (out ∷ []) ≡ unit_written numbers out
+  module _ (shape : length numbers ≡ unit_length) {u : Unit} (is : u ≡ unit_of numbers) {r : OrRefused ⊤} (by : r ≡ unit_refusal u) where
+    pub unit_written_refused : {n : Refusal} → r ≡ Err n → a ≡ minus (number_of n) → outcome a (out ∷ []) ≡ unit_written numbers out
     unfolding unit_written unit_numbers_refusal
-    unit_written_refused h e = rw (eq-eqb _ _ shape, ← is, ← by, ne_eqb _ _ h, e)
+    unit_written_refused h e = rw (eq-eqb _ _ shape, ← is, ← by, h, e)
 
-    pub unit_written_lem : n ≡ fine → {r : Wrote} {after : List ℕ} → (r ≡ wrote_of out (unit_bytes u)) × (after ≡ line_into out (unit_bytes u)) → a ≡ wrote r
+    pub unit_written_lem : {t : ⊤} → r ≡ Ok t → {w : OrRefused ℕ} {after : List ℕ} → (w ≡ wrote_of out (unit_bytes u)) × (after ≡ line_into out (unit_bytes u)) → a ≡ wrote w
         → outcome a (after ∷ []) ≡ unit_written numbers out
     unfolding unit_written unit_numbers_refusal
-    unit_written_lem h w e = rw (eq-eqb _ _ shape, ← is, ← by, eq-eqb _ _ h) (line_written (unit_bytes u) out w e)
+    unit_written_lem h w e = rw (eq-eqb _ _ shape, ← is, ← by, h) (line_written (unit_bytes u) out w e)

@@ -1,7 +1,8 @@
 -- A unit and what is known of a found file, as the numbers that C lends.
 -- Assumes nothing.
-use Rattle.std.specs.Prelude.{ℕ, Bool, cond, not, List, [], ◌∷◌, eqb, length, get_or}
-use Rattle.refusal.specs.Numbers.{unit_out}
+use Rattle.std.specs.Prelude.{ℕ, Bool, cond, not, List, [], ◌∷◌, eqb, length, get_or, ⊤, Err}
+use Rattle.refusal.specs.Answers.{OrRefused}
+use Rattle.refusal.specs.declared.Refusal.TheVariants.{UnitOut}
 use Rattle.unit.specs.Unit.{unit_refusal}
 use Rattle.unit.specs.declared.Unit.{Unit}
 use Rattle.kept.specs.declared.keep.Keep.{Keep}
@@ -30,8 +31,8 @@ unit_of numbers =
     }
 
 -- numbers of another shape, or a value outside its range: 3
-unfoldable pub unit_numbers_refusal : List ℕ → ℕ
-unit_numbers_refusal numbers = cond (eqb (length numbers) unit_length) (unit_refusal (unit_of numbers)) unit_out
+unfoldable pub unit_numbers_refusal : List ℕ → OrRefused ⊤
+unit_numbers_refusal numbers = cond (eqb (length numbers) unit_length) (unit_refusal (unit_of numbers)) (Err UnitOut)
 
 -- how many numbers say what is known of a found file
 abbrev pub keep_length : ℕ

@@ -1,6 +1,10 @@
 // The integer that a call answers.
 ghost use Rattle.std.specs.Prelude.{◌≡◌, ◌<◌, ◌^◌, pos};
-ghost use Rattle.lampbuckle.specs.Answer.{minus};
+ghost use Rattle.refusal.specs.Numbers.{number_of};
+ghost use Rattle.lampbuckle.specs.Answer.{minus, answer_of};
+ghost use Rattle.lampbuckle.specs.Code.Countable.{Countable};
+
+use refusal::Refusal;
 
 // So many: of bytes, of symbols, of bases.
 pub(crate) fn counted(n: usize) -> i64
@@ -11,8 +15,19 @@ pub(crate) fn counted(n: usize) -> i64
 }
 
 // Minus the number of a refusal.
-pub(crate) fn refused(n: u32) -> i64
-    ensures { result ≡ minus n }
+pub(crate) fn refused(refusal: Refusal) -> i64
+    ensures { result ≡ minus (number_of refusal) }
 {
-    0 - (n as i64)
+    -i64::from(u32::from(refusal))
+}
+
+// Either of the two.
+pub(crate) fn answered(answer: Result<usize, Refusal>) -> i64
+    requires { Countable answer }
+    ensures { result ≡ answer_of answer }
+{
+    match answer {
+        Ok(n) => counted(n),
+        Err(refusal) => refused(refusal),
+    }
 }

@@ -5,7 +5,7 @@ ghost use Rattle.lampbuckle.specs.Call.{record_call};
 
 use crate::answer::{counted, refused};
 use crate::numbers;
-use record::Answer;
+use refusal::Refusal;
 use state::numbers as state_numbers;
 
 // The next record of a unit: its 04 line at the front of what is lent, and the next state in the place of the one before. It answers the line's bytes.
@@ -22,17 +22,15 @@ pub extern "C" fn lampbuckle_record(
     ensures { outcome result (state.new ∷ out.new ∷ []) ≡ record_call unit.now reference.now symbols.now counts.now state.old line.now out.old }
 {
     if unit.len() != numbers::UNIT {
-        return refused(refusal::UNIT_OUT);
+        return refused(Refusal::UnitOut);
     }
     let u = numbers::read_unit(unit);
     let before = state_numbers::read(&state[..]);
     let r = record::record(u, reference, symbols, counts, before, line, out);
-    let answer = r.answer;
-    let next = r.state;
-    match answer {
-        Answer::Refused(n) => refused(n),
-        Answer::Listed(n) => {
-            state_numbers::lay(state, next);
+    match r.answer {
+        Err(refusal) => refused(refusal),
+        Ok(n) => {
+            state_numbers::lay(state, r.state);
             counted(n)
         }
     }

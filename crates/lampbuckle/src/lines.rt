@@ -3,12 +3,10 @@ ghost use Rattle.std.specs.Prelude.{◌≡◌, [], ◌∷◌};
 ghost use Rattle.lampbuckle.specs.Answer.{outcome};
 ghost use Rattle.lampbuckle.specs.Lines.{unit_call, pair_call, reference_call};
 
-use crate::answer::{counted, refused};
+use crate::answer::{answered, counted, refused};
 use crate::numbers;
-use front::pair_line::PairLine;
-use front::reference_line::ReferenceLine;
-use front::unit_line::UnitLine;
 use front::{pair_line, reference_line, unit_line};
+use refusal::Refusal;
 use unit::Pairs;
 
 // The unit line's eight values into the lent eight numbers. It answers the line's bytes.
@@ -17,11 +15,11 @@ pub extern "C" fn lampbuckle_unit_line(line: &[u8], unit: &mut [u32]) -> i64
     ensures { outcome result (unit.new ∷ []) ≡ unit_call line.now unit.old }
 {
     if unit.len() != numbers::UNIT {
-        return refused(refusal::UNIT_OUT);
+        return refused(Refusal::UnitOut);
     }
     match unit_line::read(line) {
-        UnitLine::Refused(n) => refused(n),
-        UnitLine::Read(u) => {
+        Err(refusal) => refused(refusal),
+        Ok(u) => {
             numbers::lay_unit(unit, u);
             counted(line.len())
         }
@@ -39,11 +37,11 @@ pub extern "C" fn lampbuckle_pair_line(
     ensures { outcome result (symbols.new ∷ counts.new ∷ []) ≡ pair_call line.now subsequence symbols.old counts.old }
 {
     if counts.len() != Pairs::SUBSEQUENCES {
-        return refused(refusal::COUNT_OUT);
+        return refused(Refusal::CountOut);
     }
     match pair_line::read(line, subsequence, symbols) {
-        PairLine::Refused(n) => refused(n),
-        PairLine::Count(n) => {
+        Err(refusal) => refused(refusal),
+        Ok(n) => {
             counts[subsequence as usize] = n;
             counted(n as usize)
         }
@@ -55,8 +53,5 @@ pub extern "C" fn lampbuckle_pair_line(
 pub extern "C" fn lampbuckle_reference_line(line: &[u8], reference: &mut [u8], used: usize) -> i64
     ensures { outcome result (reference.new ∷ []) ≡ reference_call line.now reference.old used }
 {
-    match reference_line::read(line, reference, used) {
-        ReferenceLine::Refused(n) => refused(n),
-        ReferenceLine::Bases(n) => counted(n),
-    }
+    answered(reference_line::read(line, reference, used))
 }

@@ -1,6 +1,6 @@
 // A unit and what is known of a found file, as the numbers that a caller lends.
 ghost use Rattle.std.specs.Prelude.{◌≡◌, [], ◌∷◌, length};
-ghost use Rattle.lampbuckle.specs.Numbers.{unit_length, keep_length, unit_of, unit_numbers, keep_of, keep_numbers, flag as flagOf};
+ghost use Rattle.lampbuckle.specs.Numbers.{unit_length, keep_length, unit_of, unit_numbers, keep_of, keep_numbers};
 
 use kept::keep::Keep;
 use unit::Unit;
@@ -38,21 +38,16 @@ pub(crate) fn lay_unit(n: &mut [u32], unit: Unit)
     requires { length n.old ≡ unit_length }
     ensures { n.new ≡ unit_numbers unit }
 {
-    n[0] = unit.class;
-    n[1] = unit.alphabet;
-    n[2] = unit.segments;
-    n[3] = unit.sequence;
-    n[4] = unit.first;
-    n[5] = unit.start;
-    n[6] = unit.end;
-    n[7] = unit.records;
-}
-
-// 1 for true.
-pub(crate) fn flag(b: bool) -> usize
-    ensures { result ≡ flagOf b }
-{
-    if b { 1 } else { 0 }
+    n.copy_from_slice(&[
+        unit.class,
+        unit.alphabet,
+        unit.segments,
+        unit.sequence,
+        unit.first,
+        unit.start,
+        unit.end,
+        unit.records,
+    ]);
 }
 
 pub(crate) fn read_keep(n: &[usize]) -> Keep
@@ -72,10 +67,11 @@ pub(crate) fn lay_keep(n: &mut [usize], keep: Keep)
     requires { length n.old ≡ keep_length }
     ensures { n.new ≡ keep_numbers keep }
 {
-    let done = flag(keep.done);
-    n[0] = keep.first;
-    n[1] = keep.last;
-    n[2] = keep.kept;
-    n[3] = keep.seen;
-    n[4] = done;
+    n.copy_from_slice(&[
+        keep.first,
+        keep.last,
+        keep.kept,
+        keep.seen,
+        usize::from(keep.done),
+    ]);
 }

@@ -2,11 +2,12 @@
 ghost use Rattle.std.specs.Prelude.{◌≡◌, [], ◌∷◌, ◌<◌, ◌^◌, length};
 ghost use Rattle.lampbuckle.specs.Answer.{outcome};
 ghost use Rattle.state.specs.Numbers.{state_length};
-ghost use Rattle.lampbuckle.specs.Resume.{place_afresh, place_second, place_on, place_over, wanted_length, keep_call, goes_on, by_go, place_call, pass_call};
+ghost use Rattle.lampbuckle.specs.Resume.{place_afresh, place_second, place_on, place_over, wanted_length, keep_call, goes_on, place_answered, place_call, pass_call};
 
 use crate::answer::{counted, refused};
 use crate::numbers;
-use resuming::place::{Go, WhereTo};
+use refusal::Refusal;
+use resuming::place::Go;
 use state::{State, numbers as state_numbers};
 use unit::Pairs;
 
@@ -35,12 +36,12 @@ pub extern "C" fn lampbuckle_keep(piece: &[u8], keep: &mut [usize]) -> i64
     ensures { outcome result (keep.new ∷ []) ≡ keep_call piece.now keep.old }
 {
     if keep.len() != numbers::KEEP {
-        return refused(refusal::MISSING);
+        return refused(Refusal::Missing);
     }
     let before = numbers::read_keep(&keep[..]);
     let after = before.over(piece);
     numbers::lay_keep(keep, after);
-    counted(numbers::flag(after.done))
+    counted(usize::from(after.done))
 }
 
 fn go_on(number: usize, next: State, state: &mut [u32]) -> i64
@@ -53,18 +54,17 @@ fn go_on(number: usize, next: State, state: &mut [u32]) -> i64
 }
 
 // A place that was found, by its number, with the state to go on from; or the refusal.
-fn settle(p: WhereTo, state: &mut [u32]) -> i64
+fn settle(go: Go, state: &mut [u32]) -> i64
     requires { length state.old ≡ state_length }
-    ensures { outcome result (state.new ∷ []) ≡ by_go p.go p.state state.old }
+    ensures { outcome result (state.new ∷ []) ≡ place_answered go state.old }
 {
-    let go = p.go;
-    let next = p.state;
+    let next = go.state();
     match go {
         Go::Afresh => go_on(AFRESH, next, state),
         Go::Second => go_on(SECOND, next, state),
-        Go::On => go_on(ON, next, state),
+        Go::On(_) => go_on(ON, next, state),
         Go::Over => go_on(OVER, next, state),
-        Go::Refused(n) => refused(n),
+        Go::Refused(refusal) => refused(refusal),
     }
 }
 
@@ -81,13 +81,13 @@ pub extern "C" fn lampbuckle_place(
     ensures { outcome result (state.new ∷ []) ≡ place_call listed.now count counts.now first.now last.now state.old }
 {
     if counts.len() != Pairs::SUBSEQUENCES {
-        return refused(refusal::COUNT_OUT);
+        return refused(Refusal::CountOut);
     }
     if state.len() != state_numbers::STATE {
-        return refused(refusal::MISSING);
+        return refused(Refusal::Missing);
     }
-    let p = resuming::place::place(listed, count, counts, first, last);
-    settle(p, state)
+    let go = resuming::place::place(listed, count, counts, first, last);
+    settle(go, state)
 }
 
 // Passes over a piece of the unit file until 0A went by as often as is wanted; how often it is still wanted is laid. It answers the bytes that are passed over.
@@ -96,7 +96,7 @@ pub extern "C" fn lampbuckle_pass(piece: &[u8], wanted: &mut [usize]) -> i64
     ensures { outcome result (wanted.new ∷ []) ≡ pass_call piece.now wanted.old }
 {
     if wanted.len() != WANTED {
-        return refused(refusal::MISSING);
+        return refused(Refusal::Missing);
     }
     let p = resuming::pass::pass(piece, wanted[0]);
     wanted[0] = p.left;

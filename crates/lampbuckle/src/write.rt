@@ -2,24 +2,13 @@
 ghost use Rattle.std.specs.Prelude.{◌≡◌, [], ◌∷◌};
 ghost use Rattle.listing.specs.Listing.{frame05, frame06};
 ghost use Rattle.lampbuckle.specs.Answer.{outcome};
-ghost use Rattle.lampbuckle.specs.Write.{wrote, written_call, unit_written};
-ghost use Rattle.lampbuckle.specs.Code.Countable.{Countable};
+ghost use Rattle.lampbuckle.specs.Write.{written_call, unit_written};
 
-use crate::answer::{counted, refused};
+use crate::answer::{answered, refused};
 use crate::numbers;
 use front::unit_line;
 use listing::close;
-use writing::lay::Wrote;
-
-fn answered(w: Wrote) -> i64
-    requires { Countable w }
-    ensures { result ≡ wrote w }
-{
-    match w {
-        Wrote::Line(n) => counted(n),
-        Wrote::NoRoom => refused(refusal::NO_ROOM),
-    }
-}
+use refusal::Refusal;
 
 // The unit line again.
 #[unsafe(no_mangle)]
@@ -27,15 +16,13 @@ pub extern "C" fn lampbuckle_write_unit(unit: &[u32], out: &mut [u8]) -> i64
     ensures { outcome result (out.new ∷ []) ≡ unit_written unit.now out.old }
 {
     if unit.len() != numbers::UNIT {
-        return refused(refusal::UNIT_OUT);
+        return refused(Refusal::UnitOut);
     }
     let u = numbers::read_unit(unit);
-    let n = u.refusal();
-    if n != 0 {
-        return refused(n);
+    if let Err(refusal) = u.check() {
+        return refused(refusal);
     }
-    let w = unit_line::write(out, u);
-    answered(w)
+    answered(unit_line::write(out, u))
 }
 
 // The 05 line of a refusal.
@@ -43,8 +30,7 @@ pub extern "C" fn lampbuckle_write_unit(unit: &[u32], out: &mut [u8]) -> i64
 pub extern "C" fn lampbuckle_write_refused(number: u32, refusal: u32, out: &mut [u8]) -> i64
     ensures { outcome result (out.new ∷ []) ≡ written_call (frame05 number refusal) out.old }
 {
-    let w = close::write_refused(out, number, refusal);
-    answered(w)
+    answered(close::write_refused(out, number, refusal))
 }
 
 // The 06 line of a listing that is whole.
@@ -52,6 +38,5 @@ pub extern "C" fn lampbuckle_write_refused(number: u32, refusal: u32, out: &mut 
 pub extern "C" fn lampbuckle_write_done(count: u32, out: &mut [u8]) -> i64
     ensures { outcome result (out.new ∷ []) ≡ written_call (frame06 count) out.old }
 {
-    let w = close::write_done(out, count);
-    answered(w)
+    answered(close::write_done(out, count))
 }

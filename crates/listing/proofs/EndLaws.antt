@@ -5,7 +5,8 @@ use native.Mathlib.Omega.{arith}
 use mathlib.Core.Path.{◌≡◌, refl, ap}
 use mathlib.Core.List.{List, [], ◌∷◌}
 use lib.ListN.{length, get_or, drop}
-use Rattle.refusal.specs.Numbers.{missing}
+use Rattle.refusal.specs.declared.Refusal.{Refusal}
+use Rattle.refusal.specs.Numbers.{number_of, missing}
 use Rattle.frame.proofs.LineLaws.{line_of_bytes}
 use Rattle.state.specs.declared.State.{State}
 use Rattle.state.specs.Listed.{Step, refused, accepted}
@@ -16,7 +17,7 @@ use Rattle.state.specs.State.{Shaped}
 
 -- the last line behind i accepted records, of k, from the state `before` behind them
 pub data LastBy (E : Setup) (k : ℕ) (ls : List (List ℕ)) (i : ℕ) (before : State) : List ℕ → Type 0 where
-  by_call : (n : ℕ) → i < k → i < length ls → E.step before (get_or ls i []) ≡ refused n → LastBy E k ls i before (line05 before.number n)
+  by_call : (n : Refusal) → i < k → i < length ls → E.step before (get_or ls i []) ≡ refused n → LastBy E k ls i before (line05 before.number (number_of n))
   by_end : i < k → length ls ≡ i → LastBy E k ls i before (line05 before.number missing)
   by_rest : i ≡ k → k ≤ length ls → LastBy E k ls i before (last_line E before (drop k ls))
 

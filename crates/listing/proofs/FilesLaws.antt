@@ -3,6 +3,7 @@
 use Prim.Native.Nat.{ℕ, zero, suc}
 use mathlib.Core.Path.{◌≡◌, refl}
 use mathlib.Core.List.{List, [], ◌∷◌}
+use Rattle.refusal.specs.declared.Refusal.TheVariants.{Missing}
 use Rattle.refusal.specs.Numbers.{Early}
 use Rattle.refusal.proofs.RefusalLaws.{early}
 use Rattle.unit.specs.Pairs.{subsequences}
@@ -29,7 +30,7 @@ module _ {Ref Head Pair : Type 0} (readRef : List (List ℕ) → Read Ref) (read
       → ((ps : List Pair) (rest : List (List ℕ)) → All Fine k ps → Lawful (done ps rest)) → LawfulFront (pairs readRef read_unit read_pair setup k i u ls done)
   unfolding LawfulFront pairs
   pairs_lawful zero i u w ls done h = h [] ls none
-  pairs_lawful (suc k) i u w [] done h = (w, early tt)
+  pairs_lawful (suc k) i u w [] done h = (w, early Missing tt)
   pairs_lawful (suc k) i u w (l ∷ ls) done h =
       by (read_pair i l) refl (λ p f. pairs_lawful k (suc i) u w ls (λ ps rest. done (p ∷ ps) rest) (λ ps rest fs. h (p ∷ ps) rest (one f fs)))
     where
@@ -47,7 +48,7 @@ module _ {Ref Head Pair : Type 0} (readRef : List (List ℕ) → Read Ref) (read
       unit R u ls (wrong n) e = wrong-unit u n e
 
       lines : (R : Ref) (ls : List (List ℕ)) → LawfulFront (on_lines readRef read_unit read_pair setup R ls)
-      lines R [] = early tt
+      lines R [] = early Missing tt
       lines R (u ∷ ls) = unit R u ls (read_unit u) refl
 
       by : (t : Read Ref) → readRef (lines_of refFile) ≡ t → LawfulFront (on_ref readRef read_unit read_pair setup unitFile t)

@@ -14,8 +14,9 @@ use Rattle.frame.specs.Hex.{Bytes, unhex, be}
 use Rattle.frame.specs.Line.{line_within}
 use Rattle.frame.specs.Field.{big_at}
 use Rattle.frame.specs.Steps.{after_line}
-use Rattle.frame.specs.declared.line.Line.{Line}
-use Rattle.frame.specs.declared.line.Line.TheVariants.{Frame, Malformed}
+use Rattle.std.specs.Prelude.{Ok, Err}
+use Rattle.refusal.specs.Answers.{OrRefused}
+use Rattle.refusal.specs.declared.Refusal.{Refusal}
 use Rattle.frame.proofs.HexLaws.{by_test, false_true}
 use Rattle.frame.proofs.LineLaws.{line_of_bytes, unhex_line, line_is_frame, frame_is_line, line_too_long}
 use Rattle.unit.specs.Pairs.{subsequences}
@@ -84,11 +85,11 @@ module _ (count : ℕ) (counts bs : List ℕ) (n : ℕ) (size : n ≡ length bs)
       unfolding frame_last
       frame_other d = simp (sym kind, ne_eqb k kind_listed a, ne_eqb k kind_refused b, ne_eqb k kind_done d)
 
-pub last_malformed : (count : ℕ) (counts line : List ℕ) → line_within most_listed line ≡ Malformed → bad ≡ last_of count counts line
+pub last_malformed : (count : ℕ) (counts line : List ℕ) (n : Refusal) → line_within most_listed line ≡ Err n → bad ≡ last_of count counts line
 unfolding last_of
-last_malformed count counts line e = rw e
+last_malformed count counts line n e = rw e
 
-pub last_frame : (count : ℕ) (counts line : List ℕ) (n : ℕ) → line_within most_listed line ≡ Frame n → frame_last count counts (unhex line) ≡ last_of count counts line
+pub last_frame : (count : ℕ) (counts line : List ℕ) (n : ℕ) → line_within most_listed line ≡ Ok n → frame_last count counts (unhex line) ≡ last_of count counts line
 unfolding last_of
 last_frame count counts line n e = rw e
 
@@ -127,13 +128,13 @@ pub data Sorted (count : ℕ) (counts line : List ℕ) : Last → Type 0 where
   other : (ContinuableLine count counts line → ⊥) → (ClosingLine kind_refused bytes05 line → ⊥) → (ClosingLine kind_done bytes06 line → ⊥) → Sorted count counts line bad
 
 module _ (count : ℕ) (counts line : List ℕ) (all : length counts ≡ subsequences) where
-  module _ (n : ℕ) (e : line_within most_listed line ≡ Frame n) where
+  module _ (n : ℕ) (e : line_within most_listed line ≡ Ok n) where
     -- the bytes that a well-formed line is said to have are those of its frame
-    size : (m : ℕ) → line_within most_listed line ≡ Frame m → m ≡ length (unhex line)
+    size : (m : ℕ) → line_within most_listed line ≡ Ok m → m ≡ length (unhex line)
     size m q = (frame_is_line most_listed line m q).count
 
-    digits : (m : ℕ) → length (unhex line) ≡ m → line_within most_listed line ≡ Frame m
-    digits m q = e ∙ ap Frame (size n e ∙ q)
+    digits : (m : ℕ) → length (unhex line) ≡ m → line_within most_listed line ≡ Ok m
+    digits m q = e ∙ ap Ok (size n e ∙ q)
 
     -- of another kind
     not_listed : (get_or (unhex line) 0 0 ≡ kind_listed → ⊥) → ContinuableLine count counts line → ⊥
@@ -194,16 +195,16 @@ module _ (count : ℕ) (counts line : List ℕ) (all : length counts ≡ subsequ
         (λ x. rw x (other four five (not_closed kind_done bytes06 (eqb-false (get_or (unhex line) 0 0) kind_done x))))))))
 
   -- a malformed line says nothing
-  malformed_frame : (m : ℕ) → line_within most_listed line ≡ Malformed → line_within most_listed line ≡ Frame m → ⊥
+  malformed_frame : {n : Refusal} (m : ℕ) → line_within most_listed line ≡ Err n → line_within most_listed line ≡ Ok m → ⊥
   malformed_frame m e q = let z : ◌≡◌ {A = ℕ} 0 1 = cc in omega arith
 
   pub sorted : Sorted count counts line (last_of count counts line)
   unfolding last_of
   sorted = by (line_within most_listed line) refl
     where
-      by : (t : Line) → line_within most_listed line ≡ t → Sorted count counts line (after_line bad t (frame_last count counts (unhex line)))
-      by (Frame n) e = sorted_frame n e
-      by Malformed e = other (λ w. malformed_frame w.bytes e w.digits) (λ w. malformed_frame bytes05 e w.digits) (λ w. malformed_frame bytes06 e w.digits)
+      by : (t : OrRefused ℕ) → line_within most_listed line ≡ t → Sorted count counts line (after_line (λ refusal. bad) t (frame_last count counts (unhex line)))
+      by (Ok n) e = sorted_frame n e
+      by (Err n) e = other (λ w. malformed_frame w.bytes e w.digits) (λ w. malformed_frame bytes05 e w.digits) (λ w. malformed_frame bytes06 e w.digits)
 
   -- and back: what each sort of line says
 

@@ -12,7 +12,7 @@ use lib.Seq.{take-append-le, take-append-add}
 use borrow.Author.Tests.{ne_eqb}
 use Rattle.frame.specs.Hex.{glyph, hex_of, unhex}
 use Rattle.frame.specs.Line.{line_end, line_within}
-use Rattle.frame.specs.declared.line.Line.TheVariants.{Frame}
+use Rattle.std.specs.Prelude.{Ok}
 use Rattle.frame.proofs.HexLaws.{glyph_from}
 use Rattle.frame.proofs.LineLaws.{line_of_bytes, frame_is_line}
 use Rattle.listing.specs.Lines.{push_byte, lines_of, ends, kept_with, kept, WholeLine, end, more}
@@ -31,7 +31,7 @@ whole_bytes (b ∷ bs) = put (b / 16) (put (b % 16) (whole_bytes bs))
         (ne_eqb (glyph d) 10 (λ e. omega (arith, glyph_from d, e))) h
 
 -- a well-formed line is a whole line
-pub whole_frame : (most : ℕ) (l : List ℕ) (n : ℕ) → line_within most l ≡ Frame n → WholeLine l
+pub whole_frame : (most : ℕ) (l : List ℕ) (n : ℕ) → line_within most l ≡ Ok n → WholeLine l
 whole_frame most l n e = rw (frame_is_line most l n e).line (whole_bytes (unhex l))
 
 pub whole_ends : {l : List ℕ} → WholeLine l → ends l ≡ true

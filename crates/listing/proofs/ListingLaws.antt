@@ -10,11 +10,12 @@ use lib.Dec.{leb, lit≤}
 use lib.ListN.{length, get_or}
 use lib.Seq.{take-nil, take-append-le, take-append-add}
 use borrow.Author.Tests.{leb-true, leb-false}
-use Rattle.refusal.specs.Numbers.{missing, no_room, Early}
+use Rattle.refusal.specs.declared.Refusal.TheVariants.{Missing}
+use Rattle.refusal.specs.Numbers.{number_of, missing, no_room, Early}
 use Rattle.refusal.proofs.RefusalLaws.{early}
 use Rattle.frame.specs.Hex.{Bytes, unhex, be}
 use Rattle.frame.specs.Line.{line_digits}
-use Rattle.frame.specs.declared.line.Line.TheVariants.{Frame}
+use Rattle.std.specs.Prelude.{Ok}
 use Rattle.frame.proofs.HexLaws.{by_test}
 use Rattle.frame.proofs.LineLaws.{line_of_bytes, unhex_line, line_is_frame, frame_is_line}
 use Rattle.frame.proofs.FieldLaws.{field_back}
@@ -60,17 +61,17 @@ each f (one {l} h g) = one (f l h) (each f g)
 entry_last : (E : Setup) (s : State) (ls : List (List ℕ)) → Entry (last_line E s ls)
 unfolding last_line
 entry_last E s [] =
-    by_test (all_taken s E.counts) (λ t. rw t (done_line E.count)) (λ t. rw t (refused_line E.count missing (early tt)))
-entry_last E s (l ∷ ls) = refused_line E.count missing (early tt)
+    by_test (all_taken s E.counts) (λ t. rw t (done_line E.count)) (λ t. rw t (refused_line E.count missing (early Missing tt)))
+entry_last E s (l ∷ ls) = refused_line E.count missing (early Missing tt)
 
 entries_from : {E : Setup} → Lawful E → (k : ℕ) (s : State) (ls : List (List ℕ)) → Shaped s → Each Entry (records E k s ls)
 unfolding records
 entries_from {E} w zero s ls i = one (entry_last E s ls) none
-entries_from {E} w (suc k) s [] i = one (refused_line s.number missing (early tt)) none
+entries_from {E} w (suc k) s [] i = one (refused_line s.number missing (early Missing tt)) none
 entries_from {E} w (suc k) s (l ∷ ls) i = by (E.step s l) refl (λ u. entries_from w k u ls)
   where
     by : (t : Step) → E.step s l ≡ t → ((u : State) → Shaped u → Each Entry (records E k u ls)) → Each Entry (on_step s.number t (λ u. records E k u ls))
-    by (refused n) t go = one (refused_line s.number n (w.refusal s l n i t)) none
+    by (refused n) t go = one (refused_line s.number (number_of n) (w.refusal s l n i t)) none
     by (accepted frame u) t go =
         let a : Accepted E s l frame u = w.acceptance s l frame u i t in
         one (listed_line frame a.bytes (accepted_kind a) a.most) (go u a.indexes)
@@ -88,7 +89,7 @@ entry_line l (unit_line_lem w) =
     let i = frame_is_line line_digits l w.size w.well_formed in
     record {
       bytes = length (unhex l);
-      digits = rw i.line (line_is_frame most_listed (unhex l) i.bytes (omega (arith, i.fits, i.count)) ∙ ap Frame (ap length (ap unhex i.line)));
+      digits = rw i.line (line_is_frame most_listed (unhex l) i.bytes (omega (arith, i.fits, i.count)) ∙ ap Ok (ap length (ap unhex i.line)));
       whole = whole_frame line_digits l w.size w.well_formed;
     }
 entry_line l (listed_line bs b k m) = record { bytes = length bs; digits = line_is_frame most_listed bs b m; whole = whole_bytes bs }
@@ -199,7 +200,7 @@ closes_from E (suc k) s [] z = inl (closing_05 s.number missing)
 closes_from E (suc k) s (l ∷ ls) z = by (E.step s l) (λ u. closes_from E k u ls)
   where
     by : (t : Step) → ((u : State) (y : List ℕ) → Closes (last_from y (records E k u ls))) → Closes (last_from z (on_step s.number t (λ u. records E k u ls)))
-    by (refused n) go = inl (closing_05 s.number n)
+    by (refused n) go = inl (closing_05 s.number (number_of n))
     by (accepted frame u) go = go u (line_of_bytes frame)
 
 pub listing_closes : (F : Front) → Closes (last_from (first_of F) (rest_of F))
@@ -229,7 +230,7 @@ finished_from {E} w (suc k) s (l ∷ ls) z q x n e = by (E.step s l) refl e (λ 
     by : (t : Step) → E.step s l ≡ t → last_from z (on_step s.number t (λ u. records E k u ls)) ≡ line06 q
         → ((u : State) (y : List ℕ) (r : ℕ) → Shaped u → u.number + k ≡ E.count → last_from y (records E k u ls) ≡ line06 r → Finished E (state_behind E k u ls))
         → Finished E (on_accepted s t (λ u. state_behind E k u ls))
-    by (refused m) t e go = not_06 s.number m q e
+    by (refused m) t e go = not_06 s.number (number_of m) q e
     by (accepted frame u) t e go =
         let a : Accepted E s l frame u = w.acceptance s l frame u x t in
         go u (line_of_bytes frame) q a.indexes (omega (arith, a.number)) e

@@ -9,7 +9,7 @@ use mathlib.Core.List.{List, [], ◌∷◌, ◌++◌, append_assoc}
 use mathlib.Core.Option.{none, some}
 use lib.ListN.{length, get_or, drop}
 use lib.Seq.{take-nil, drop-append_seam}
-use Rattle.refusal.specs.Numbers.{missing}
+use Rattle.refusal.specs.Numbers.{number_of, missing}
 use Rattle.frame.specs.Hex.{Bytes, unhex, be}
 use Rattle.frame.specs.Line.{line_digits}
 use Rattle.frame.specs.Field.{big_at}
@@ -137,7 +137,7 @@ module _ {E : Setup} (w : Lawful E) where
     where
       by : (t : Step) → E.step s l ≡ t → ((u : State) → Shaped u → u.number + k ≡ E.count → skip u.number E.lines ≡ some ls → Good (ready E) (records E k u ls))
           → Good (ready E) (on_step s.number t (λ u. records E k u ls))
-      by (refused n) t go = good_05 E.first refl w.unit s.number n
+      by (refused n) t go = good_05 E.first refl w.unit s.number (number_of n)
       by (accepted frame u) t go =
           let a : Accepted E s l frame u = w.acceptance s l frame u i t in
           let ended : ends l ≡ true = whole_ends (whole_frame line_digits l a.size a.well_formed) in

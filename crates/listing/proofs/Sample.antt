@@ -8,14 +8,16 @@ use mathlib.Core.List.{List, [], ◌∷◌, ◌++◌}
 use lib.Dec.{ltb, lit≤}
 use lib.ListN.{length, get_or, replicate, length-append}
 use borrow.Author.Tests.{ltb-true}
-use Rattle.refusal.specs.Numbers.{malformed, missing, other_first, other_last, Early}
+use Rattle.std.specs.Prelude.{Ok, Err}
+use Rattle.refusal.specs.Answers.{OrRefused}
+use Rattle.refusal.specs.declared.Refusal.{Refusal}
+use Rattle.refusal.specs.declared.Refusal.TheVariants.{Malformed, Missing}
+use Rattle.refusal.specs.Numbers.{number_of, malformed, missing, other_first, other_last, Early}
 use Rattle.refusal.proofs.RefusalLaws.{early}
 use Rattle.frame.specs.Hex.{is_digit, glyph, nib, hex_of, unhex, all_digits, Bytes, be}
-use Rattle.frame.specs.Line.{line_within, line_of}
+use Rattle.frame.specs.Line.{line_digits, line_within, line_of}
 use Rattle.frame.specs.Field.{big_at}
-use Rattle.frame.specs.declared.line.Line.{Line}
-use Rattle.frame.specs.declared.line.Line.TheVariants.{Frame, Malformed}
-use Rattle.frame.proofs.LineLaws.{line_of_bytes}
+use Rattle.frame.proofs.LineLaws.{line_of_bytes, line_malformed}
 use Rattle.unit.specs.Pairs.{subsequences}
 use Rattle.state.specs.State.{fresh_state, after, none_above}
 use Rattle.state.specs.declared.State.{State}
@@ -41,12 +43,12 @@ toy_next s = after s fresh_state
 abbrev toy_frame : State → List ℕ
 toy_frame s = listed_head s.number (toy_next s) ++ replicate link_fields 1
 
-abbrev on_toy : State → Line → Step
-on_toy s (Frame n) = accepted (toy_frame s) (toy_next s)
-on_toy s Malformed = refused malformed
+abbrev on_toy : State → OrRefused ℕ → Step
+on_toy s (Ok n) = accepted (toy_frame s) (toy_next s)
+on_toy s (Err refusal) = refused refusal
 
 abbrev toy_step : State → List ℕ → Step
-toy_step s l = cond (ltb s.number toy_count) (on_toy s (line_of l)) (refused missing)
+toy_step s l = cond (ltb s.number toy_count) (on_toy s (line_of l)) (refused Missing)
 
 abbrev toy_unit : List ℕ
 toy_unit = line_of_bytes (kind_unit ∷ 3 ∷ [])
@@ -63,7 +65,7 @@ ones : Bytes (replicate link_fields 1)
 unfolding Bytes
 ones = omega arith
 
-toy_accepted : (ls : List (List ℕ)) (s : State) (l : List ℕ) (m : ℕ) → s.number < toy_count → line_of l ≡ Frame m → Accepted (toy ls) s l (toy_frame s) (toy_next s)
+toy_accepted : (ls : List (List ℕ)) (s : State) (l : List ℕ) (m : ℕ) → s.number < toy_count → line_of l ≡ Ok m → Accepted (toy ls) s l (toy_frame s) (toy_next s)
 toy_accepted ls s l m h e =
     let long : length (toy_frame s) ≡ least_listed = omega (arith, length-append (listed_head s.number (toy_next s)) (replicate link_fields 1), length_head s.number (toy_next s) refl) in
     record {
@@ -91,22 +93,22 @@ toy_lawful ls =
       count_fits = lit≤ tt;
       counts_all = refl;
       counts_fit = λ i. omega (arith, zeros subsequences i);
-      refusal = λ s l n i e. wrong s l n (ltb s.number toy_count) (line_of l) e;
+      refusal = λ s l n i e. wrong s l n (ltb s.number toy_count) (line_of l) refl e;
       acceptance = λ s l frame next i e. right s l frame next (ltb s.number toy_count) refl (line_of l) refl e;
     }
   where
-    wrong : (s : State) (l : List ℕ) (n : ℕ) (t : Bool) (u : Line) → cond t (on_toy s u) (refused missing) ≡ refused n → Early n
-    wrong s l n true (Frame m) e = let z : ◌≡◌ {A = ℕ} 0 1 = cc in absurd (omega arith)
-    wrong s l n true Malformed e = let z : n ≡ malformed = cc in rw z (early tt)
-    wrong s l n false u e = let z : n ≡ missing = cc in rw z (early tt)
+    wrong : (s : State) (l : List ℕ) (n : Refusal) (t : Bool) (u : OrRefused ℕ) → line_of l ≡ u → cond t (on_toy s u) (refused Missing) ≡ refused n → Early (number_of n)
+    wrong s l n true (Ok m) hu e = let z : ◌≡◌ {A = ℕ} 0 1 = cc in absurd (omega arith)
+    wrong s l n true (Err refusal) hu e = let z : n ≡ refusal = cc in rw (z, line_malformed line_digits l refusal hu) (early Malformed tt)
+    wrong s l n false u hu e = let z : n ≡ Missing = cc in rw z (early Missing tt)
 
-    right : (s : State) (l frame : List ℕ) (next : State) (t : Bool) → ltb s.number toy_count ≡ t → (u : Line) → line_of l ≡ u
-        → cond t (on_toy s u) (refused missing) ≡ accepted frame next → Accepted (toy ls) s l frame next
-    right s l frame next true ht (Frame m) hu e =
+    right : (s : State) (l frame : List ℕ) (next : State) (t : Bool) → ltb s.number toy_count ≡ t → (u : OrRefused ℕ) → line_of l ≡ u
+        → cond t (on_toy s u) (refused Missing) ≡ accepted frame next → Accepted (toy ls) s l frame next
+    right s l frame next true ht (Ok m) hu e =
         let f : frame ≡ toy_frame s = cc in
         let n : next ≡ toy_next s = cc in
         rw (f, n) (toy_accepted ls s l m (ltb-true s.number toy_count ht) hu)
-    right s l frame next true ht Malformed hu e = let z : ◌≡◌ {A = ℕ} 0 1 = cc in absurd (omega arith)
+    right s l frame next true ht (Err refusal) hu e = let z : ◌≡◌ {A = ℕ} 0 1 = cc in absurd (omega arith)
     right s l frame next false ht u hu e = let z : ◌≡◌ {A = ℕ} 0 1 = cc in absurd (omega arith)
 
 -- ---- its listing over two record lines, the second without its 0A, stopped at a few bytes

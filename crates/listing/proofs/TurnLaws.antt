@@ -5,6 +5,7 @@ use native.Mathlib.Omega.{arith}
 use mathlib.Core.Path.{◌≡◌, refl, sym, ap}
 use mathlib.Core.List.{List, [], ◌∷◌, ◌++◌, append-nil}
 use borrow.Author.Tests.{lt-ltb, le-ltb}
+use Rattle.refusal.specs.Numbers.{number_of}
 use Rattle.frame.proofs.LineLaws.{line_of_bytes}
 use Rattle.state.specs.State.{fresh_state, Shaped}
 use Rattle.state.specs.declared.State.{State}
@@ -25,7 +26,7 @@ module _ {E : Setup} (w : Lawful E) where
     where
       by : (t : Step) → E.step s l ≡ t → ((u : State) → Shaped u → u.number + k ≡ E.count → run E (suc k) u ls ≡ joined (records E k u ls))
           → on_turn (step_turn s.number t) (λ u. run E (suc k) u ls) ≡ joined (on_step s.number t (λ u. records E k u ls))
-      by (refused n) t go = sym (append-nil (line05 s.number n))
+      by (refused n) t go = sym (append-nil (line05 s.number (number_of n)))
       by (accepted frame u) t go =
           let a : Accepted E s l frame u = w.acceptance s l frame u i t in
           ap (λ (r : List ℕ). line_of_bytes frame ++ r) (go u a.indexes (omega (arith, a.number)))

@@ -1,11 +1,10 @@
 -- The listing of a unit (document 01, The listing), over any record call.
 -- Assumes nothing.
-use Rattle.std.specs.Prelude.{ℕ, zero, suc, ◌≡◌, cond, List, [], ◌∷◌, ◌++◌, get_or}
-use Rattle.refusal.specs.Numbers.{missing, Early}
+use Rattle.std.specs.Prelude.{ℕ, zero, suc, ◌≡◌, cond, List, [], ◌∷◌, ◌++◌, get_or, Ok}
+use Rattle.refusal.specs.Numbers.{number_of, missing, Early}
 use Rattle.frame.specs.Hex.{unhex, be}
 use Rattle.frame.specs.Line.{line_within, line_of_bytes}
 use Rattle.frame.specs.Field.{big_at}
-use Rattle.frame.specs.declared.line.Line.TheVariants.{Frame}
 use Rattle.state.specs.State.{fresh_state, all_taken}
 use Rattle.state.specs.declared.State.{State}
 use Rattle.unit.specs.Kinds.{kind_listed, kind_refused, kind_done}
@@ -44,7 +43,7 @@ last_line E s (l ∷ ls) = line05 E.count missing
 
 -- an accepted record's 04 line and the lines behind it; or, at the first refusal, the 05 line and nothing after it
 abbrev pub on_step : ℕ → Step → (State → List (List ℕ)) → List (List ℕ)
-on_step number (refused n) more = line05 number n ∷ []
+on_step number (refused n) more = line05 number (number_of n) ∷ []
 on_step number (accepted frame next) more = line_of_bytes frame ∷ more next
 
 -- the lines of the listing from a state on, where so many records are left and these lines of the unit file
@@ -100,7 +99,7 @@ pub data Each (P : List ℕ → Type 0) : List (List ℕ) → Type 0 where
 -- a line as a listing has it: lower-case digits, two a byte, no more than the limit; one 0A, at its end, and no zero byte
 pub record ListingLine (line : List ℕ) : Type 0 where
   pub bytes : ℕ
-  pub digits : line_within most_listed line ≡ Frame bytes
+  pub digits : line_within most_listed line ≡ Ok bytes
   pub whole : WholeLine line
 
 -- the 04 line of a record

@@ -1,10 +1,10 @@
 -- What a listing asks of the record call (document 01, The listing and Order): the call is the field `step` of a setup, and `Lawful` is what it must keep to.
 -- Assumes nothing.
-use Rattle.std.specs.Prelude.{ℕ, ◌+◌, ◌*◌, ◌<◌, ◌≤◌, ◌≡◌, List, ◌++◌, length, get_or}
-use Rattle.refusal.specs.Numbers.{Early}
+use Rattle.std.specs.Prelude.{ℕ, ◌+◌, ◌*◌, ◌<◌, ◌≤◌, ◌≡◌, List, ◌++◌, length, get_or, Ok}
+use Rattle.refusal.specs.Numbers.{number_of, Early}
+use Rattle.refusal.specs.declared.Refusal.{Refusal}
 use Rattle.frame.specs.Hex.{Bytes, unhex}
 use Rattle.frame.specs.Line.{line_of}
-use Rattle.frame.specs.declared.line.Line.TheVariants.{Frame}
 use Rattle.unit.specs.Unit.{most_records}
 use Rattle.unit.specs.Pairs.{subsequences, most_symbols}
 use Rattle.state.specs.declared.State.{State}
@@ -27,7 +27,7 @@ pub record Setup : Type 0 where
 -- what an accepted call says: the line is well formed; its 04 line carries this record's number and the indexes after it, which the unit allows; the next state is the next record's
 pub record Accepted (E : Setup) (s : State) (line frame : List ℕ) (next : State) : Type 0 where
   pub size : ℕ
-  pub well_formed : line_of line ≡ Frame size
+  pub well_formed : line_of line ≡ Ok size
   pub tail : List ℕ
   pub head : frame ≡ listed_head s.number next ++ tail
   pub bytes : Bytes frame
@@ -41,15 +41,15 @@ pub record Accepted (E : Setup) (s : State) (line frame : List ℕ) (next : Stat
 -- a unit line, as far as a listing needs to know it: well formed, and of kind 01
 pub record FirstLine (line : List ℕ) : Type 0 where
   pub size : ℕ
-  pub well_formed : line_of line ≡ Frame size
+  pub well_formed : line_of line ≡ Ok size
   pub kind : get_or (unhex line) 0 0 ≡ kind_unit
 
--- what the theorems ask of a setup: of the record call only at states that have an index for each subsequence; it may answer any number of the table but 17
+-- what the theorems ask of a setup: of the record call only at states that have an index for each subsequence; it may answer any refusal of the table but 17
 pub record Lawful (E : Setup) : Type 0 where
   pub unit : FirstLine E.first
   pub count_fits : E.count ≤ most_records
   pub counts_all : length E.counts ≡ subsequences
   pub counts_fit : (i : ℕ) → get_or E.counts i 0 ≤ most_symbols
-  pub refusal : (s : State) (line : List ℕ) (n : ℕ) → Shaped s → E.step s line ≡ refused n → Early n
+  pub refusal : (s : State) (line : List ℕ) (n : Refusal) → Shaped s → E.step s line ≡ refused n → Early (number_of n)
   pub acceptance : (s : State) (line frame : List ℕ) (next : State) → Shaped s → E.step s line ≡ accepted frame next
       → Accepted E s line frame next

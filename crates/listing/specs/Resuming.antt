@@ -1,13 +1,14 @@
 -- Resuming (document 01): the first and the last kept line, where to go on, and what is supplied.
 -- Assumes nothing.
-use Rattle.std.specs.Prelude.{ℕ, zero, suc, ◌+◌, ◌-◌, ◌*◌, ◌<◌, ◌≤◌, ◌≡◌, cond, ◌⊎◌, List, [], ◌∷◌, ◌++◌, eqb, length, get_or, take, replicate}
+use Rattle.std.specs.Prelude.{ℕ, zero, suc, ◌+◌, ◌-◌, ◌*◌, ◌<◌, ◌≤◌, ◌≡◌, cond, ◌⊎◌, List, [], ◌∷◌, ◌++◌, eqb, length, get_or, take, replicate, Option as StdOption, Some, None, Ok}
 use Rattle.std.proofs.Math.Option.{Option, none, some}
-use Rattle.refusal.specs.Numbers.{missing, other_first, other_last}
+use Rattle.refusal.specs.declared.Refusal.{Refusal}
+use Rattle.refusal.specs.declared.Refusal.TheVariants.{OtherFirst, OtherLast}
+use Rattle.refusal.specs.Numbers.{number_of, missing, other_last}
 use Rattle.frame.specs.Hex.{unhex}
 use Rattle.frame.specs.Line.{line_within}
 use Rattle.frame.specs.Field.{big_at}
 use Rattle.frame.specs.Steps.{after_line}
-use Rattle.frame.specs.declared.line.Line.TheVariants.{Frame}
 use Rattle.unit.specs.Pairs.{subsequences}
 use Rattle.state.specs.declared.State.{State}
 use Rattle.state.specs.State.{index_count}
@@ -35,9 +36,9 @@ abbrev pub bytes06 : ℕ
 bytes06 = 3
 
 -- what an 04 line says, by the state behind its record
-abbrev pub last_by : Option State → Last
-last_by none = bad
-last_by (some s) = go_on s
+abbrev pub last_by : StdOption State → Last
+last_by None = bad
+last_by (Some s) = go_on s
 
 abbrev pub listed_last : ℕ → List ℕ → List ℕ → Last
 listed_last count counts bs = last_by (state_back count counts bs)
@@ -51,7 +52,7 @@ frame_last count counts bs =
 
 -- "hexadecimal as above", of at most 20,808 digits
 unfoldable pub last_of : ℕ → List ℕ → List ℕ → Last
-last_of count counts line = after_line bad (line_within most_listed line) (frame_last count counts (unhex line))
+last_of count counts line = after_line (λ refusal. bad) (line_within most_listed line) (frame_last count counts (unhex line))
 
 -- ---- where to go on
 
@@ -84,19 +85,19 @@ pub data Place : Type 0 where
   on : State → Place
   -- "After 05 or 06 nothing is added"
   over : Place
-  -- a refused resume, by its number
-  no : ℕ → Place
+  -- a refused resume
+  no : Refusal → Place
 
 -- where to go on behind a last line, by what it says; "else 16"
 abbrev pub on_last : Last → Place
 on_last (go_on s) = on s
 on_last whole = over
-on_last bad = no other_last
+on_last bad = no OtherLast
 
 -- "Otherwise 15 is checked first. The last kept line must be .. equal to the first line, or ..; else 16"
 abbrev pub place_by : List ℕ → ℕ → List ℕ → Edges → Place
 place_by first count counts nothing = afresh
-place_by first count counts (edges a z) = cond (same_list a first) (cond (same_list z first) second (on_last (last_of count counts z))) (no other_first)
+place_by first count counts (edges a z) = cond (same_list a first) (cond (same_list z first) second (on_last (last_of count counts z))) (no OtherFirst)
 
 -- "also for an 04 line where a reference, unit or pair line is refused or .. missing": there no record number is below the count
 unfoldable pub count_of : Front → ℕ
@@ -117,7 +118,7 @@ place F e = place_by (first_of F) (count_of F) (counts_of F) e
 -- an 04 line that can be continued, said field by field: the u16 at byte 1 is its record number, the u16 at byte 3 + 2 i its i-th index
 pub record ContinuableLine (count : ℕ) (counts line : List ℕ) : Type 0 where
   pub bytes : ℕ
-  pub digits : line_within most_listed line ≡ Frame bytes
+  pub digits : line_within most_listed line ≡ Ok bytes
   pub kind : get_or (unhex line) 0 0 ≡ kind_listed
   pub least : least_listed ≤ bytes
   pub in_count : big_at 2 (unhex line) number_place < count
@@ -125,7 +126,7 @@ pub record ContinuableLine (count : ℕ) (counts line : List ℕ) : Type 0 where
 
 -- an 05 or an 06 line, of its own number of bytes
 pub record ClosingLine (kind_of bytes : ℕ) (line : List ℕ) : Type 0 where
-  pub digits : line_within most_listed line ≡ Frame bytes
+  pub digits : line_within most_listed line ≡ Ok bytes
   pub kind : get_or (unhex line) 0 0 ≡ kind_of
 
 -- the last line of a listing
@@ -169,7 +170,7 @@ added F afresh = add (listing F)
 added F second = add (joined (rest_of F))
 added F (on s) = supplied_from F s
 added F over = add []
-added F (no n) = refuse n
+added F (no n) = refuse (number_of n)
 
 -- what is supplied goes by the front of the files, the first and the last kept line alone
 unfoldable pub supply : Front → Edges → Supplied

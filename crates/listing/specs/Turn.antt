@@ -2,7 +2,7 @@
 -- Assumes nothing.
 use Rattle.std.specs.Prelude.{ℕ, zero, suc, cond, List, [], ◌∷◌, ◌++◌, ltb}
 use Rattle.std.proofs.Math.Option.{Option, none, some}
-use Rattle.refusal.specs.Numbers.{missing}
+use Rattle.refusal.specs.Numbers.{number_of, missing}
 use Rattle.frame.specs.Line.{line_of_bytes}
 use Rattle.state.specs.declared.State.{State}
 use Rattle.state.specs.Listed.{Step, refused, accepted}
@@ -16,7 +16,7 @@ pub data Turn : Type 0 where
 
 -- a record call's answer, printed
 abbrev pub step_turn : ℕ → Step → Turn
-step_turn number (refused n) = stop (line05 number n)
+step_turn number (refused n) = stop (line05 number (number_of n))
 step_turn number (accepted frame next) = go (line_of_bytes frame) next
 
 -- a record is wanted: the next line of the file is its record line, or the lines run out

@@ -4,8 +4,9 @@ ghost use Rattle.writing.specs.Whole.{wrote_of, line_into};
 ghost use Rattle.listing.specs.Listing.{frame05, frame06};
 ghost use Rattle.listing.specs.Resuming.{bytes05, bytes06, no_record};
 
+use refusal::Refusal;
 use unit::kind::Kind;
-use writing::lay::{Wrote, write_line};
+use writing::lay::write_line;
 
 // The record number of a refused resume.
 pub const NO_RECORD: u32 = 65_535;
@@ -52,7 +53,7 @@ fn bytes_06(count: u32) -> [u8; BYTES_06]
 }
 
 // An 05 line.
-pub fn write_refused(out: &mut [u8], number: u32, refusal: u32) -> Wrote
+pub fn write_refused(out: &mut [u8], number: u32, refusal: u32) -> Result<usize, Refusal>
     ensures value { result ≡ wrote_of out.old (frame05 number refusal) }
     ensures out_after { out.new ≡ line_into out.old (frame05 number refusal) }
 {
@@ -61,7 +62,7 @@ pub fn write_refused(out: &mut [u8], number: u32, refusal: u32) -> Wrote
 }
 
 // An 06 line.
-pub fn write_done(out: &mut [u8], count: u32) -> Wrote
+pub fn write_done(out: &mut [u8], count: u32) -> Result<usize, Refusal>
     ensures value { result ≡ wrote_of out.old (frame06 count) }
     ensures out_after { out.new ≡ line_into out.old (frame06 count) }
 {

@@ -1,239 +1,156 @@
 // The front of the two files: the reference, which is read first and whole, then the unit line and the pair lines.
-ghost use Rattle.opening.specs.Code.Front.{Grows};
+ghost use Rattle.std.specs.Prelude.{◌≤◌, length, IfOk};
 
-use front::pair_line::PairLine;
-use front::reference_line::ReferenceLine;
-use front::unit_line::UnitLine;
 use front::{pair_line, reference_line, unit_line};
-use program::system::{fail, open_read};
+use program::system::{Failed, fail, open_read};
+use refusal::Refusal;
 use std::fs::File;
-use std::io::Error;
-use stream::source::{Source, take};
+use std::io;
+use std::ops::Range;
+use stream::source::Source;
 use unit::{Pairs, Unit};
 
 // How far the front can be read.
 #[derive(Clone, Copy)]
 pub enum FrontRead {
-    // A file cannot be opened or read, which was said on standard error.
-    Unread,
-    // A reference line is refused, or the unit line is refused or missing: the 05 line with this number stands alone.
-    Alone(u32),
+    // A reference line is refused, or the unit line is refused or missing: the 05 line stands alone.
+    Alone(Refusal),
     // A pair line behind this unit line is refused or missing.
-    Unpaired(Unit, u32),
+    Unpaired(Unit, Refusal),
     Ready(Unit),
 }
 
-// The front, how many bases and symbols were laid, and the unit file behind its pair lines.
+// How many symbols each pair line laid.
+type Counts = [u32; Pairs::SUBSEQUENCES];
+
+// What the two files come to: the bases of the reference, none where a line of it is refused, and the symbols of the pair lines.
 #[derive(Drop)]
-pub struct OpenFiles {
+pub struct OpenFiles<'f, 'b> {
     pub front: FrontRead,
-    pub bases: usize,
-    pub counts: [u32; Pairs::SUBSEQUENCES],
+    pub reference: &'f [u8],
+    pub symbols: &'f [u32],
+    pub counts: Counts,
+    // The unit file behind its pair lines, and the buffer that it is read through.
+    pub unit_path: &'f [u8],
     pub source: Source<File>,
+    pub buf: &'b mut [u8],
 }
 
-// What the reference file comes to.
-#[derive(Drop)]
-enum Based {
-    Bases(usize),
-    Refused(u32),
-    Unread(Error),
+impl OpenFiles<'_, '_> {
+    // The next line of the unit file, or its end, an empty part of the buffer. Where it cannot be read, that is said.
+    pub fn take(&mut self, rt: &HostRuntime) -> Result<Range<usize>, Failed>
+        ensures { IfOk result (λ t. (t.start ≤ t.end) × (t.end ≤ length self.new.buf.now)) }
+    {
+        let path = self.unit_path;
+        let buf = &mut *self.buf;
+        self.source.take(buf).map_err(|cause| fail(rt, path, cause))
+    }
+
+    // Passes over so many lines of the unit file; the answer is how many it has too few. Where it cannot be read, that is said.
+    pub fn pass_lines(&mut self, rt: &HostRuntime, want: usize) -> Result<usize, Failed> {
+        let path = self.unit_path;
+        let buf = &mut *self.buf;
+        self.source
+            .pass_lines(buf, want)
+            .map_err(|cause| fail(rt, path, cause))
+    }
 }
 
-// What one line of it comes to: so many bases now, or the file's end.
-#[derive(Drop)]
-enum BaseLine {
-    More(usize),
-    Done,
-    Refused(u32),
-    Unread(Error),
-}
-
-#[derive(Drop)]
-struct AddedLine {
-    added: BaseLine,
-    source: Source<File>,
-}
-
-#[derive(Drop)]
-struct PairTaken {
-    answer: PairLine,
-    source: Source<File>,
-}
-
-fn add_bases(s: Source<File>, buf: &mut [u8], reference: &mut [u8], bases: usize) -> AddedLine
-    ensures { Grows bases result.added }
+// How many bases the reference has, or why a line of it is refused. Every line adds a base, and there is a most of them, so that the loop ends.
+fn read_reference(
+    rt: &HostRuntime,
+    path: &[u8],
+    buf: &mut [u8],
+    reference: &mut [u8],
+) -> io::Result<Result<usize, Refusal>>
+    ensures { IfOk result (λ r. IfOk r (λ n. n ≤ length reference.new)) }
 {
-    let line = take(s, buf);
-    let from = line.from;
-    let to = line.to;
-    let source = line.source;
-    if let Some(cause) = source.failed {
-        return AddedLine {
-            added: BaseLine::Unread(cause),
-            source,
-        };
-    }
-    if from == to {
-        return AddedLine {
-            added: BaseLine::Done,
-            source,
-        };
-    }
-    match reference_line::read(&buf[from..to], reference, bases) {
-        ReferenceLine::Bases(n) => AddedLine {
-            added: BaseLine::More(n),
-            source,
-        },
-        ReferenceLine::Refused(n) => AddedLine {
-            added: BaseLine::Refused(n),
-            source,
-        },
-    }
-}
-
-// Every line adds a base, and there is a most of them, so that the loop ends.
-fn read_reference(s: Source<File>, buf: &mut [u8], reference: &mut [u8]) -> Based {
-    let mut source = s;
+    let mut source = Source::new(open_read(rt, path)?);
     let mut bases: usize = 0;
     loop {
-        let line = add_bases(source, buf, reference, bases);
-        let added = line.added;
-        match added {
-            BaseLine::More(n) => {
-                bases = n;
-            }
-            BaseLine::Done => {
-                return Based::Bases(bases);
-            }
-            BaseLine::Refused(n) => {
-                return Based::Refused(n);
-            }
-            BaseLine::Unread(cause) => {
-                return Based::Unread(cause);
-            }
+        let line = source.take(buf)?;
+        if line.is_empty() {
+            return Ok(Ok(bases));
         }
-        source = line.source;
+        match reference_line::read(&buf[line], reference, bases) {
+            Ok(n) => bases = n,
+            Err(refusal) => return Ok(Err(refusal)),
+        }
     }
 }
 
-fn open_reference(rt: &HostRuntime, path: &[u8], buf: &mut [u8], reference: &mut [u8]) -> Based {
-    let based = match open_read(rt, path) {
-        Ok(file) => read_reference(Source::new(file), buf, reference),
-        Err(cause) => Based::Unread(cause),
-    };
-    if let Based::Unread(cause) = based {
-        fail(rt, path, cause);
-    }
-    based
-}
-
-// A front behind which nothing is read.
-fn closed(front: FrontRead, source: Source<File>) -> OpenFiles {
-    OpenFiles {
-        front,
-        bases: 0,
-        counts: [0u32; Pairs::SUBSEQUENCES],
-        source,
-    }
-}
-
-// A file that ends where a pair line is wanted is refused as the line would be.
-fn add_symbols(s: Source<File>, buf: &mut [u8], symbols: &mut [u32], number: u32) -> PairTaken {
-    let line = take(s, buf);
-    let from = line.from;
-    let to = line.to;
-    let source = line.source;
-    if from == to {
-        return PairTaken {
-            answer: PairLine::Refused(refusal::MISSING),
-            source,
-        };
-    }
-    let answer = pair_line::read(&buf[from..to], number, symbols);
-    PairTaken { answer, source }
-}
-
-// The pair lines, behind a unit line.
+// The pair lines, behind a unit line. A file that ends where one is wanted is refused as the line would be.
 fn read_pairs(
-    unit: Unit,
-    bases: usize,
-    s: Source<File>,
+    source: &mut Source<File>,
     buf: &mut [u8],
     symbols: &mut [u32],
-) -> OpenFiles {
-    let mut source = s;
+) -> io::Result<Result<Counts, Refusal>> {
     let mut counts = [0u32; Pairs::SUBSEQUENCES];
-    let mut i: usize = 0;
-    while i < Pairs::SUBSEQUENCES {
-        let paired = add_symbols(source, buf, symbols, i as u32);
-        source = paired.source;
-        if source.failed.is_some() {
-            return closed(FrontRead::Unread, source);
+    for (i, count) in counts.iter_mut().enumerate() {
+        let line = source.take(buf)?;
+        if line.is_empty() {
+            return Ok(Err(Refusal::Missing));
         }
-        let answer = paired.answer;
-        match answer {
-            PairLine::Count(n) => {
-                counts[i] = n;
-            }
-            PairLine::Refused(n) => {
-                return closed(FrontRead::Unpaired(unit, n), source);
-            }
+        match pair_line::read(&buf[line], i as u32, symbols) {
+            Ok(n) => *count = n,
+            Err(refusal) => return Ok(Err(refusal)),
         }
-        i += 1;
     }
-    OpenFiles {
-        front: FrontRead::Ready(unit),
-        bases,
-        counts,
-        source,
-    }
+    Ok(Ok(counts))
 }
 
-// The unit file up to its record lines, where the reference has so many bases.
-fn read_unit(bases: usize, s: Source<File>, buf: &mut [u8], symbols: &mut [u32]) -> OpenFiles {
-    let line = take(s, buf);
-    let from = line.from;
-    let to = line.to;
-    let source = line.source;
-    if source.failed.is_some() {
-        return closed(FrontRead::Unread, source);
+// The unit file up to its record lines.
+fn read_unit(
+    source: &mut Source<File>,
+    buf: &mut [u8],
+    symbols: &mut [u32],
+) -> io::Result<(FrontRead, Counts)> {
+    let none = [0u32; Pairs::SUBSEQUENCES];
+    let line = source.take(buf)?;
+    if line.is_empty() {
+        return Ok((FrontRead::Alone(Refusal::Missing), none));
     }
-    if from == to {
-        return closed(FrontRead::Alone(refusal::MISSING), source);
-    }
-    match unit_line::read(&buf[from..to]) {
-        UnitLine::Read(unit) => read_pairs(unit, bases, source, buf, symbols),
-        UnitLine::Refused(n) => closed(FrontRead::Alone(n), source),
+    match unit_line::read(&buf[line]) {
+        Ok(unit) => match read_pairs(source, buf, symbols)? {
+            Ok(counts) => Ok((FrontRead::Ready(unit), counts)),
+            Err(refusal) => Ok((FrontRead::Unpaired(unit, refusal), none)),
+        },
+        Err(refusal) => Ok((FrontRead::Alone(refusal), none)),
     }
 }
 
 // Opens both files, and reads as far as is told by them. The reference is closed again before the unit file is opened, so that one program may write both into pipes, one after the other.
-pub fn open(
+pub fn open<'f, 'b>(
     rt: &HostRuntime,
     reference_path: &[u8],
-    unit_path: &[u8],
-    buf: &mut [u8],
-    reference: &mut [u8],
-    symbols: &mut [u32],
-) -> OpenFiles {
-    let based = open_reference(rt, reference_path, buf, reference);
-    let source = match open_read(rt, unit_path) {
-        Ok(file) => Source::new(file),
-        Err(cause) => {
-            fail(rt, unit_path, cause);
-            return closed(FrontRead::Unread, Source::unreadable(None, cause));
+    unit_path: &'f [u8],
+    buf: &'b mut [u8],
+    reference: &'f mut [u8],
+    symbols: &'f mut [u32],
+) -> Result<OpenFiles<'f, 'b>, Failed> {
+    let based = read_reference(rt, reference_path, buf, reference).map_err(|cause| fail(
+        rt,
+        reference_path,
+        cause,
+    ));
+    let file = open_read(rt, unit_path).map_err(|cause| fail(rt, unit_path, cause))?;
+    let mut source = Source::new(file);
+    let (bases, front, counts) = match based? {
+        Ok(bases) => {
+            let (front, counts) = read_unit(&mut source, buf, symbols).map_err(|cause| fail(
+                rt, unit_path, cause,
+            ))?;
+            (bases, front, counts)
         }
+        Err(refusal) => (0, FrontRead::Alone(refusal), [0u32; Pairs::SUBSEQUENCES]),
     };
-    match based {
-        Based::Unread(_) => closed(FrontRead::Unread, source),
-        Based::Refused(n) => closed(FrontRead::Alone(n), source),
-        Based::Bases(n) => {
-            let opened = read_unit(n, source, buf, symbols);
-            if let Some(cause) = opened.source.failed {
-                fail(rt, unit_path, cause);
-            }
-            opened
-        }
-    }
+    Ok(OpenFiles {
+        front,
+        reference: &reference[..bases],
+        symbols,
+        counts,
+        unit_path,
+        source,
+        buf,
+    })
 }

@@ -6,24 +6,24 @@ use crate::files::FrontRead;
 use front::unit_line;
 use listing::close;
 use program::sink::Sink;
-use writing::lay::Wrote;
+use program::system::Failed;
+use refusal::Refusal;
 
 // The listing's first line, at the front of what is lent.
-pub fn write_first(out: &mut [u8], front: FrontRead) -> Wrote
+#[tactic(auto, unfolding(crate::specs::First::first_wrote, crate::specs::First::first_into))]
+pub fn write_first(out: &mut [u8], front: FrontRead) -> Result<usize, Refusal>
     ensures value { result ≡ first_wrote out.old front }
     ensures out_after { out.new ≡ first_into out.old front }
 {
     match front {
-        FrontRead::Alone(n) => close::write_refused(out, 0, n),
-        FrontRead::Unpaired(unit, _) => unit_line::write(out, unit),
-        FrontRead::Ready(unit) => unit_line::write(out, unit),
-        FrontRead::Unread => Wrote::NoRoom,
+        FrontRead::Alone(refusal) => close::write_refused(out, 0, u32::from(refusal)),
+        FrontRead::Unpaired(unit, _) | FrontRead::Ready(unit) => unit_line::write(out, unit),
     }
 }
 
-pub fn with_first(rt: &HostRuntime, k: Sink, out: &mut [u8], front: FrontRead) -> Sink {
-    let roomy = k.roomy(rt, out);
-    let used = roomy.used;
-    let wrote = write_first(&mut out[used..], front);
-    roomy.with(wrote, out)
+// That line is gathered.
+pub fn add_first(sink: &mut Sink, front: FrontRead) -> Result<(), Failed> {
+    sink.make_room()?;
+    let wrote = write_first(&mut sink.out[sink.used..], front);
+    sink.add(wrote)
 }

@@ -14,7 +14,8 @@ use Rattle.taking.specs.Steps.{Steps, reserved}
 use Rattle.taking.proofs.Taking.{by_test, one_of}
 use Rattle.taking.proofs.Decoding.{Ends, Tells, Any, fits_ends, fits_tells}
 use Rattle.pairing.specs.Pairing.{link_of}
-use Rattle.refusal.specs.Numbers.{used_up, code_out, value_out}
+use Rattle.refusal.specs.declared.Refusal.{Refusal}
+use Rattle.refusal.specs.declared.Refusal.TheVariants.{UsedUp, CodeOut, ValueOut}
 
 -- every case
 
@@ -97,8 +98,8 @@ module _ (classId bound : ℕ) where
 -- what they refuse
 
 -- 5, 6 or 7
-abbrev pub Told : ℕ → Type 0
-Told n = (n ≡ used_up) ⊎ ((n ≡ code_out) ⊎ (n ≡ value_out))
+abbrev pub Told : Refusal → Type 0
+Told n = (n ≡ UsedUp) ⊎ ((n ≡ CodeOut) ⊎ (n ≡ ValueOut))
 
 split_told : (classId sequence N first : ℕ) → Tells Told (split classId sequence N first)
 unfolding split

@@ -13,7 +13,7 @@ use Rattle.pairing.specs.Pairing.{link_of, pair_steps, pair_of}
 use Rattle.pairing.specs.declared.Mate.{Mate}
 use Rattle.pairing.specs.declared.Mate.TheVariants.{Unpaired, Near, Far}
 use Rattle.pairing.specs.declared.Link.{Link}
-use Rattle.pairing.specs.declared.LinkRead.TheVariants.{Linked}
+use Rattle.std.specs.Prelude.{Ok}
 use Rattle.taking.proofs.Taking.{one_of}
 use Rattle.taking.proofs.Decoding.{Ends, Any, fits_ends, decode_ends}
 use Rattle.pairing.proofs.Cases.{by_case}
@@ -63,7 +63,7 @@ record_together u =
     one_of AllTogether (ltb u.segments most_segments) _ _ tt
     (one_of AllTogether (eqb u.class class_hm) _ _ (λ v _. fits_ends Any End v _ (λ _. tt)) (λ code _. table60_together u.class u.sequence code))
 
-pub link_together : (u : UnitOf) (symbols counts : List ℕ) (st : State) (link : Link) → (pair_of u symbols counts st).answer ≡ Linked link → Together link
-link_together u symbols counts st link e =
-    let w = pair_came u symbols counts st link e in
-    rw w.link_is at (decode_ends symbols counts Any End (λ at. refl) (pair_steps u) st (record_together u) w.decoded w.next w.is)
+pub link_together : (u : UnitOf) (symbols counts : List ℕ) (st : State) (link : Link) (next : State) → pair_of u symbols counts st ≡ Ok (link, next) → Together link
+link_together u symbols counts st link next e =
+    let w = pair_came u symbols counts st link next e in
+    rw w.link_is at (decode_ends symbols counts Any End (λ at. refl) (pair_steps u) st (record_together u) w.decoded next w.is)

@@ -5,8 +5,9 @@ ghost use Rattle.std.specs.Prelude.{◌≡◌, ◌^◌, ◌<◌};
 ghost use Rattle.pairing.specs.Table60.{mate_seq_id, mapping_pos};
 ghost use Rattle.pairing.specs.Pairing.{pair_of};
 
+use refusal::Refusal;
 use state::State;
-use taking::{NextSymbol, take};
+use taking::take;
 use unit::Unit;
 
 mod rows;
@@ -32,12 +33,22 @@ pub struct Link {
 }
 
 impl Link {
+    fn new(first: u32, split: u32, segments: u32, mate: Mate) -> Link
+        ensures { result ≡ record { first = first; split = split; segments = segments; mate = mate } }
+    {
+        Link {
+            first,
+            split,
+            segments,
+            mate,
+        }
+    }
+
     // The listed sequence id of the mate.
     pub fn mate_sequence(self, unit: Unit) -> u32
         ensures { result ≡ mate_seq_id unit.sequence self.mate }
     {
-        let mate = self.mate;
-        match mate {
+        match self.mate {
             Mate::Unpaired => 0,
             Mate::Near(_) => unit.sequence,
             Mate::Far(sequence, _) => sequence,
@@ -49,8 +60,7 @@ impl Link {
         ensures value { result ≡ mapping_pos pos self.mate }
         ensures wide { result < 2 ^ 33 }
     {
-        let mate = self.mate;
-        match mate {
+        match self.mate {
             Mate::Unpaired => 0,
             Mate::Near(delta) => pos as u64 + delta as u64,
             Mate::Far(_, position) => position as u64,
@@ -58,36 +68,21 @@ impl Link {
     }
 }
 
-// A link, or a refusal by its number.
-#[derive(Clone, Copy)]
-pub enum LinkRead {
-    Linked(Link),
-    Refused(u32),
-}
-
-// What decoding a record's pair symbols hands back.
-#[derive(Clone, Copy)]
-pub struct Paired {
-    pub answer: LinkRead,
-    pub state: State,
-}
-
-// The record's link and the state with its pair symbols taken; or a refusal and the state as it was given.
-pub fn pair(unit: Unit, symbols: &[u32], counts: &[u32], state: State) -> Paired
+// The record's link and the state with its pair symbols taken, or the first refusal.
+pub fn pair(
+    unit: Unit,
+    symbols: &[u32],
+    counts: &[u32],
+    state: State,
+) -> Result<(Link, State), Refusal>
     ensures { result ≡ pair_of unit symbols.now counts.now state }
 {
-    let class = unit.class;
     if unit.segments < Unit::SEGMENTS {
-        return rows::linked(1, 0, 1, Mate::Unpaired, state);
+        return Ok((Link::new(1, 0, 1, Mate::Unpaired), state));
     }
-    if class == Unit::HM {
+    if unit.class == Unit::HM {
         return rows::half_mapped(symbols, counts, state);
     }
-    let t = take(symbols, counts, state, 0);
-    let found = t.found;
-    let next = t.state;
-    let NextSymbol::Symbol(code) = found else {
-        return rows::refused(refusal::USED_UP, state);
-    };
-    rows::by_code(class, unit.sequence, symbols, counts, next, state, code)
+    let (code, next) = take(symbols, counts, state, 0)?;
+    rows::by_code(unit.class, unit.sequence, symbols, counts, next, code)
 }

@@ -1,39 +1,14 @@
-// The rows of Table 60, a function each. `back` is the state that a refusal hands back.
+// The rows of Table 60, a function each: the link, and the state after its symbols.
 ghost use Rattle.std.specs.Prelude.{◌≡◌};
 ghost use Rattle.pairing.specs.Table60.{HM_same_rec, same_rec, split, diff_ref_seq, table60, mate_at, read_first};
-ghost use Rattle.pairing.specs.Pairing.{linked_to, refused_link, paired};
+ghost use Rattle.pairing.specs.Pairing.{paired};
 ghost use Rattle.taking.specs.Steps.{decode};
 
-use crate::{Link, LinkRead, Mate, Paired};
+use crate::{Link, Mate};
+use refusal::Refusal;
 use state::State;
-use taking::{NextSymbol, take};
+use taking::take;
 use unit::Unit;
-
-// A refusal, with the state it hands back.
-pub(crate) fn refused(number: u32, back: State) -> Paired
-    ensures { result ≡ refused_link number back }
-{
-    Paired {
-        answer: LinkRead::Refused(number),
-        state: back,
-    }
-}
-
-// A link, with the state after its symbols.
-pub(crate) fn linked(first: u32, split: u32, segments: u32, mate: Mate, state: State) -> Paired
-    ensures { result ≡ linked_to record { first = first; split = split; segments = segments; mate = mate } state }
-{
-    let link = Link {
-        first,
-        split,
-        segments,
-        mate,
-    };
-    Paired {
-        answer: LinkRead::Linked(link),
-        state,
-    }
-}
 
 // Class U has no aligned mate.
 fn mate_at(class: u32, sequence: u32, position: u32) -> Mate
@@ -49,48 +24,41 @@ fn mate_at(class: u32, sequence: u32, position: u32) -> Mate
 fn read_first(v: u32) -> u32
     ensures { result ≡ read_first v }
 {
-    if v % 2 == 1 {
-        return 0;
-    }
-    1
+    1 - v % 2
 }
 
 // Class HM: one value tells which read is first.
-pub(crate) fn half_mapped(symbols: &[u32], counts: &[u32], state: State) -> Paired
-    ensures { result ≡ paired state (decode symbols.now counts.now state HM_same_rec) }
+pub(crate) fn half_mapped(
+    symbols: &[u32],
+    counts: &[u32],
+    state: State,
+) -> Result<(Link, State), Refusal>
+    ensures { result ≡ paired (decode symbols.now counts.now state HM_same_rec) }
 {
-    let t = take(symbols, counts, state, 1);
-    let found = t.found;
-    let next = t.state;
-    let NextSymbol::Symbol(v) = found else {
-        return refused(refusal::USED_UP, state);
-    };
+    let (v, next) = take(symbols, counts, state, 1)?;
     if Unit::LARGEST16 < v {
-        return refused(refusal::VALUE_OUT, state);
+        return Err(Refusal::ValueOut);
     }
-    let first = read_first(v);
-    linked(first, 0, 2, Mate::Unpaired, next)
+    Ok((Link::new(read_first(v), 0, 2, Mate::Unpaired), next))
 }
 
 // Code 0: one value tells which read is first and how far the mate lies; in class U none is taken.
-fn same_rec(class: u32, symbols: &[u32], counts: &[u32], state: State, back: State) -> Paired
-    ensures { result ≡ paired back (decode symbols.now counts.now state (same_rec class)) }
+fn same_rec(
+    class: u32,
+    symbols: &[u32],
+    counts: &[u32],
+    state: State,
+) -> Result<(Link, State), Refusal>
+    ensures { result ≡ paired (decode symbols.now counts.now state (same_rec class)) }
 {
     if class == Unit::U {
-        return linked(1, 0, 2, Mate::Unpaired, state);
+        return Ok((Link::new(1, 0, 2, Mate::Unpaired), state));
     }
-    let t = take(symbols, counts, state, 1);
-    let found = t.found;
-    let next = t.state;
-    let NextSymbol::Symbol(v) = found else {
-        return refused(refusal::USED_UP, back);
-    };
+    let (v, next) = take(symbols, counts, state, 1)?;
     if Unit::LARGEST16 < v {
-        return refused(refusal::VALUE_OUT, back);
+        return Err(Refusal::ValueOut);
     }
-    let first = read_first(v);
-    let delta = v / 2;
-    linked(first, 0, 2, Mate::Near(delta), next)
+    Ok((Link::new(read_first(v), 0, 2, Mate::Near(v / 2)), next))
 }
 
 // Codes 1 and 2: the mate's position from subsequence s.
@@ -100,20 +68,14 @@ fn split(
     symbols: &[u32],
     counts: &[u32],
     state: State,
-    back: State,
     s: usize,
     first: u32,
-) -> Paired
-    ensures { result ≡ paired back (decode symbols.now counts.now state (split class sequence s first)) }
+) -> Result<(Link, State), Refusal>
+    ensures { result ≡ paired (decode symbols.now counts.now state (split class sequence s first)) }
 {
-    let t = take(symbols, counts, state, s);
-    let found = t.found;
-    let next = t.state;
-    let NextSymbol::Symbol(position) = found else {
-        return refused(refusal::USED_UP, back);
-    };
+    let (position, next) = take(symbols, counts, state, s)?;
     let mate = mate_at(class, sequence, position);
-    linked(first, 1, 1, mate, next)
+    Ok((Link::new(first, 1, 1, mate), next))
 }
 
 // Codes 3 and 4: the mate's sequence id from subsequence s, which class U does not look at, and its position from subsequence q.
@@ -122,26 +84,20 @@ fn diff_ref_seq(
     symbols: &[u32],
     counts: &[u32],
     state: State,
-    back: State,
     s: usize,
     q: usize,
     first: u32,
-) -> Paired
-    ensures { result ≡ paired back (decode symbols.now counts.now state (diff_ref_seq class s q first)) }
+) -> Result<(Link, State), Refusal>
+    ensures { result ≡ paired (decode symbols.now counts.now state (diff_ref_seq class s q first)) }
 {
-    let t = take(symbols, counts, state, s);
-    let found = t.found;
-    let next = t.state;
-    let NextSymbol::Symbol(sequence) = found else {
-        return refused(refusal::USED_UP, back);
-    };
+    let (sequence, next) = take(symbols, counts, state, s)?;
     if class == Unit::U {
-        return split(class, sequence, symbols, counts, next, back, q, first);
+        return split(class, sequence, symbols, counts, next, q, first);
     }
     if Unit::LARGEST16 < sequence {
-        return refused(refusal::VALUE_OUT, back);
+        return Err(Refusal::ValueOut);
     }
-    split(class, sequence, symbols, counts, next, back, q, first)
+    split(class, sequence, symbols, counts, next, q, first)
 }
 
 // The row of a code; `state` has the code taken.
@@ -151,19 +107,18 @@ pub(crate) fn by_code(
     symbols: &[u32],
     counts: &[u32],
     state: State,
-    back: State,
     code: u32,
-) -> Paired
-    ensures { result ≡ paired back (decode symbols.now counts.now state (table60 class sequence code)) }
+) -> Result<(Link, State), Refusal>
+    ensures { result ≡ paired (decode symbols.now counts.now state (table60 class sequence code)) }
 {
     match code {
-        0 => same_rec(class, symbols, counts, state, back),
-        1 => split(class, sequence, symbols, counts, state, back, 2, 0),
-        2 => split(class, sequence, symbols, counts, state, back, 3, 1),
-        3 => diff_ref_seq(class, symbols, counts, state, back, 4, 6, 0),
-        4 => diff_ref_seq(class, symbols, counts, state, back, 5, 7, 1),
-        5 => linked(1, 2, 1, Mate::Unpaired, state),
-        6 => linked(0, 2, 1, Mate::Unpaired, state),
-        _ => refused(refusal::CODE_OUT, back),
+        0 => same_rec(class, symbols, counts, state),
+        1 => split(class, sequence, symbols, counts, state, 2, 0),
+        2 => split(class, sequence, symbols, counts, state, 3, 1),
+        3 => diff_ref_seq(class, symbols, counts, state, 4, 6, 0),
+        4 => diff_ref_seq(class, symbols, counts, state, 5, 7, 1),
+        5 => Ok((Link::new(1, 2, 1, Mate::Unpaired), state)),
+        6 => Ok((Link::new(0, 2, 1, Mate::Unpaired), state)),
+        _ => Err(Refusal::CodeOut),
     }
 }

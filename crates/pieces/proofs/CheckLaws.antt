@@ -6,10 +6,14 @@ use mathlib.Core.Bool.{true, false}
 use mathlib.Core.List.{List, [], ◌∷◌}
 use native.Mathlib.Omega.{arith}
 use native.Mathlib.Nat.{add-zero, add_assoc}
-use borrow.Author.Tests.{lt-ltb, le-ltb, ne_eqb, eqb-true, eqb-false}
-use lib.Dec.{eqb}
+use borrow.Author.Tests.{lt-ltb, le-ltb, ltb-true, ltb-false}
+use lib.Dec.{ltb}
 use lib.ListN.{length}
-use Rattle.refusal.specs.Numbers.{fine, position_out}
+use Rattle.std.specs.Prelude.{⊤, Ok, Err}
+use Rattle.refusal.specs.declared.Refusal.{Refusal}
+use Rattle.refusal.specs.declared.Refusal.TheVariants.{PositionOut}
+use Rattle.refusal.specs.Answers.{OrRefused, fine, checked}
+use Rattle.refusal.proofs.AnswerLaws.{never_accepted, past_checked}
 use Rattle.frame.proofs.Tests.{by_test}
 use Rattle.unit.specs.declared.Unit.{Unit}
 use Rattle.edits.specs.Pieces.{Piece, below_zero, begins_at, spliced_seg_mapped_length, end_of}
@@ -24,103 +28,99 @@ use Rattle.splices.specs.Located.{pieces_in}
 use Rattle.splices.specs.Code.Walk.{piece_here, pieces_left, first_piece, next_piece}
 use Rattle.splices.specs.declared.Splices.{Splices}
 use Rattle.splices.proofs.WalkLaws.{pieces_begin}
-use Rattle.ecigar.specs.Check.{check_piece}
-use Rattle.ecigar.specs.declared.check.EditsChecked.{EditsChecked}
-use Rattle.ecigar.specs.declared.check.EditsChecked.TheVariants.{Fine, Refused}
+use Rattle.ecigar.specs.Check.{extent, check_piece}
+use Rattle.ecigar.specs.declared.check.Extent.{Extent}
 use Rattle.ecigar.proofs.CheckLaws.{piece_checked_lem}
 use Rattle.ecigar.proofs.LengthLaws.{piece_most}
 use Rattle.ecigar.specs.Table90.{print_all}
 use Rattle.ecigar.specs.Spliced.{piece_operations}
 use Rattle.pieces.specs.Place.{place_refusal}
 use Rattle.pieces.specs.Placed.{piece_out, placed_piece, least_behind, pieces_refusal}
-use Rattle.pieces.specs.Code.Checked.{text_of_piece, text_behind, run_here, piece_refused, piece_found, pieces_found, ReadyPiece, Looked, Walking}
+use Rattle.pieces.specs.Code.Checked.{text_of_piece, text_behind, run_here, piece_found, pieces_found, ReadyPiece, Looked, Walking}
 use Rattle.pieces.proofs.WalkingLaws.{behind_more, behind_last}
 use Rattle.pieces.specs.declared.check.PieceFound.{PieceFound}
 
 -- ---- one piece
 
+-- what refuses where nothing follows that could
+refused_back : {B : Type 0} (x : OrRefused ⊤) (b : B) (n : Refusal) → checked x (Ok b) ≡ Err n → x ≡ Err n
+refused_back (Ok t) b n e = never_accepted e
+refused_back {B} (Err m) b n e = let q : ◌≡◌ {A = Refusal} m n = cc in rw q refl
+
 module _ (u : Unit) (reference : List ℕ) (least : ℕ) (p : Piece) where
-  -- a piece that is refused by this number
-  found_by : (n : ℕ) → placed_piece u reference least p ≡ n → (n ≡ fine → ⊥) → piece_refused n ≡ piece_found u reference least p
+  -- a piece that is refused for this
+  found_by : (n : Refusal) → placed_piece u reference least p ≡ Err n → Err n ≡ piece_found u reference least p
   unfolding piece_found
-  found_by n q h = rw (q, ne_eqb n fine h) refl
+  found_by n q = rw q refl
 
-  pub found_below : below_zero p.at ≡ true → piece_refused position_out ≡ piece_found u reference least p
+  pub found_below : below_zero p.at ≡ true → Err PositionOut ≡ piece_found u reference least p
   unfolding piece_out
-  found_below t = found_by position_out (simp t) (λ z. omega arith)
+  found_below t = found_by PositionOut (simp t)
 
-  pub found_before : below_zero p.at ≡ false → begins_at p < least → piece_refused position_out ≡ piece_found u reference least p
+  pub found_before : below_zero p.at ≡ false → begins_at p < least → Err PositionOut ≡ piece_found u reference least p
   unfolding piece_out
-  found_before t h = found_by position_out (simp (t, lt-ltb _ _ h)) (λ z. omega arith)
+  found_before t h = found_by PositionOut (simp (t, lt-ltb _ _ h))
 
   module _ (position taken text : ℕ) (k : Looked u.alphabet p least position taken text) where
     place_is : piece_out u least p ≡ place_refusal u.start u.end position taken
     unfolding piece_out
     place_is = let a = k.is in let b = k.takes in rw (k.straight, le-ltb (begins_at p) least (omega (arith, k.far)), ← a, ← b) refl
 
-    pub found_outside : (n : ℕ) → n ≡ place_refusal u.start u.end position taken → (n ≡ fine → ⊥) → piece_refused n ≡ piece_found u reference least p
-    found_outside n q h = found_by n (rw (place_is, ← q, ne_eqb n fine h) refl) h
+    pub found_outside : (n : Refusal) → place_refusal u.start u.end position taken ≡ Err n → Err n ≡ piece_found u reference least p
+    found_outside n q = found_by n (rw (place_is, q) refl)
 
-    pub found_unknown : (n : ℕ) → place_refusal u.start u.end position taken ≡ fine → n ≡ piece_refusal u.alphabet reference u.first p → (n ≡ fine → ⊥) → piece_refused n ≡ piece_found u reference least p
-    found_unknown n z q h = found_by n (rw (place_is, z, ← q) refl) h
+    pub found_unknown : (n : Refusal) → place_refusal u.start u.end position taken ≡ fine → piece_refusal u.alphabet reference u.first p ≡ Err n → Err n ≡ piece_found u reference least p
+    found_unknown n z q = found_by n (rw (place_is, z, q) refl)
 
     pub found_fine : (splice : ℕ) → place_refusal u.start u.end position taken ≡ fine → piece_refusal u.alphabet reference u.first p ≡ fine → splice + text ≡ text_of_piece u.alphabet least p
-        → record { refusal = fine; end = position + taken; text = splice + text } ≡ piece_found u reference least p
+        → Ok record { end = position + taken; text = splice + text } ≡ piece_found u reference least p
     unfolding piece_found
     found_fine splice z y q = rw (place_is, z, y, k.is, k.takes, q) refl
 
 -- ---- a piece, and those behind it
 
 module _ (u : Unit) (reference : List ℕ) where
-  module _ (text least : ℕ) (p : Piece) (ps : List Piece) (r : PieceFound) (q : r ≡ piece_found u reference least p) where
-    -- refused by its own number
-    pub pieces_refused : (r.refusal ≡ fine → ⊥) → record { refusal = r.refusal; text = 0 } ≡ pieces_found u reference text least (p ∷ ps)
+  module _ (text least : ℕ) (p : Piece) (ps : List Piece) (x : OrRefused PieceFound) (q : x ≡ piece_found u reference least p) where
+    -- refused for its own
+    pub pieces_refused : (n : Refusal) → x ≡ Err n → Err n ≡ pieces_found u reference text least (p ∷ ps)
     unfolding pieces_found pieces_refusal piece_found
-    pieces_refused h =
-        by_test (eqb (placed_piece u reference least p) fine)
-        (λ t. absurd (h (ap (λ (x : PieceFound). x.refusal) q ∙ simp t)))
-        (λ t.
-        let n : r.refusal ≡ placed_piece u reference least p = ap (λ (x : PieceFound). x.refusal) q ∙ simp t in
-        simp (t, n))
+    pieces_refused n h = rw (refused_back (placed_piece u reference least p) _ n (sym q ∙ h)) refl
 
     -- what an accepted one leaves
-    record Accepted : Type 0 where
-      pub number : placed_piece u reference least p ≡ fine
+    record Accepted (r : PieceFound) : Type 0 where
+      pub nothing : placed_piece u reference least p ≡ fine
       pub end_is : r.end ≡ end_of p
       pub text_is : r.text ≡ text_of_piece u.alphabet least p
 
-    accepted : r.refusal ≡ fine → Accepted
+    accepted : (r : PieceFound) → x ≡ Ok r → Accepted r
     unfolding piece_found
-    accepted h =
-        by_test (eqb (placed_piece u reference least p) fine)
-        (λ t.
+    accepted r h =
+        let a = past_checked (placed_piece u reference least p) _ r (sym q ∙ h) in
+        let same : ◌≡◌ {A = PieceFound} (record { end = end_of p; text = text_of_piece u.alphabet least p }) r = cc in
         record {
-          number = eqb-true _ _ t;
-          end_is = ap (λ (x : PieceFound). x.end) q ∙ simp t;
-          text_is = ap (λ (x : PieceFound). x.text) q ∙ simp t;
-        })
-        (λ t.
-        let n : r.refusal ≡ placed_piece u reference least p = ap (λ (x : PieceFound). x.refusal) q ∙ simp t in
-        absurd (eqb-false _ _ t (sym n ∙ h)))
+          nothing = a.0;
+          end_is = sym (ap (λ (f : PieceFound). f.end) same);
+          text_is = sym (ap (λ (f : PieceFound). f.text) same);
+        }
 
-    pub pieces_gone : r.refusal ≡ fine → pieces_found u reference (text + r.text) (r.end + 1) ps ≡ pieces_found u reference text least (p ∷ ps)
+    pub pieces_gone : (r : PieceFound) → x ≡ Ok r → pieces_found u reference (text + r.text) (r.end + 1) ps ≡ pieces_found u reference text least (p ∷ ps)
     unfolding pieces_found pieces_refusal text_behind
-    pieces_gone h =
-        let a = accepted h in
+    pieces_gone r h =
+        let a = accepted r h in
         let e = a.end_is in
         let t = a.text_is in
-        let n = a.number in
+        let n = a.nothing in
         let s = add_assoc text (text_of_piece u.alphabet least p) (text_behind u.alphabet (least_behind p) ps) in
         rw (n, e, t, s) refl
 
-    pub piece_end : r.refusal ≡ fine → r.end ≡ end_of p
-    piece_end h = (accepted h).end_is
+    pub piece_end : (r : PieceFound) → x ≡ Ok r → r.end ≡ end_of p
+    piece_end r h = (accepted r h).end_is
 
-    pub piece_text : r.refusal ≡ fine → r.text ≡ text_of_piece u.alphabet least p
-    piece_text h = (accepted h).text_is
+    pub piece_text : (r : PieceFound) → x ≡ Ok r → r.text ≡ text_of_piece u.alphabet least p
+    piece_text r h = (accepted r h).text_is
 
   -- behind the last
-  pub pieces_over : (text least : ℕ) → record { refusal = fine; text = text } ≡ pieces_found u reference text least []
+  pub pieces_over : (text least : ℕ) → Ok text ≡ pieces_found u reference text least []
   unfolding pieces_found pieces_refusal text_behind
   pieces_over text least = rw (add-zero text) refl
 
@@ -130,24 +130,24 @@ module _ (class alphabet : ℕ) (frame : List ℕ) (w : PieceWalk) (g : ReadyPie
   abbrev here : Piece
   here = piece_here class alphabet frame w
 
-  pub edits_come : {run : Run} {r : EditsChecked} → run ≡ run_here w → r ≡ check_piece class alphabet frame w.start run.edits_at run.edits run.mapped
-      → r ≡ Fine (spliced_seg_mapped_length here) (length (print_all (piece_operations alphabet here)))
+  pub edits_come : {run : Run} {r : OrRefused Extent} → run ≡ run_here w → r ≡ check_piece class alphabet frame w.start run.edits_at run.edits run.mapped
+      → r ≡ Ok (extent (spliced_seg_mapped_length here) (length (print_all (piece_operations alphabet here))))
   edits_come q e = e ∙ rw q (piece_checked_lem class alphabet frame w.start w.edits_at w.edits w.until g.few g.short (omega (arith, g.sound.base)) g.framed g.sound.sound)
 
-  pub edits_accepted : {run : Run} {r : EditsChecked} {n : ℕ} {P : Type 0} → run ≡ run_here w → r ≡ check_piece class alphabet frame w.start run.edits_at run.edits run.mapped → r ≡ Refused n → P
-  edits_accepted q e h = absurd (let f = sym (edits_come q e) ∙ h in let z : ◌≡◌ {A = ℕ} 0 1 = cc in omega arith)
+  pub edits_accepted : {run : Run} {r : OrRefused Extent} {n : Refusal} {P : Type 0} → run ≡ run_here w → r ≡ check_piece class alphabet frame w.start run.edits_at run.edits run.mapped → r ≡ Err n → P
+  edits_accepted q e h = never_accepted (sym (edits_come q e) ∙ h)
 
-  pub edits_looked : {run : Run} {r : EditsChecked} {taken text : ℕ} (least position : ℕ) → run ≡ run_here w → r ≡ check_piece class alphabet frame w.start run.edits_at run.edits run.mapped → r ≡ Fine taken text
-      → below_zero here.at ≡ false → position ≡ begins_at here → least ≤ position → Looked alphabet here least position taken text
-  edits_looked {taken = taken} {text = text} least position q e h straight is far =
-      let f : ◌≡◌ {A = EditsChecked} (Fine taken text) (Fine (spliced_seg_mapped_length here) (length (print_all (piece_operations alphabet here)))) = sym h ∙ edits_come q e in
-      let t : taken ≡ spliced_seg_mapped_length here = cc in
-      let l : text ≡ length (print_all (piece_operations alphabet here)) = cc in
+  pub edits_looked : {run : Run} {r : OrRefused Extent} {found : Extent} (least position : ℕ) → run ≡ run_here w → r ≡ check_piece class alphabet frame w.start run.edits_at run.edits run.mapped → r ≡ Ok found
+      → below_zero here.at ≡ false → position ≡ begins_at here → least ≤ position → Looked alphabet here least position found.taken found.text
+  edits_looked {found = found} least position q e h straight is far =
+      let f : ◌≡◌ {A = OrRefused Extent} (Ok found) (Ok (extent (spliced_seg_mapped_length here) (length (print_all (piece_operations alphabet here))))) = sym h ∙ edits_come q e in
+      let same : ◌≡◌ {A = Extent} found (extent (spliced_seg_mapped_length here) (length (print_all (piece_operations alphabet here)))) = cc in
+      let l = ap (λ (x : Extent). x.text) same in
       record {
         straight = straight;
         is = is;
         far = far;
-        takes = t;
+        takes = ap (λ (x : Extent). x.taken) same;
         long = l;
         most =
             omega (
@@ -161,31 +161,35 @@ module _ (class alphabet : ℕ) (frame : List ℕ) (w : PieceWalk) (g : ReadyPie
 
 -- ---- a turn of the loop
 
-module _ (u : Unit) (reference frame symbols : List ℕ) (mapped : ℕ) (w : PieceWalk) (g : Walking u.class u.alphabet frame symbols mapped w) (text least : ℕ) (r : PieceFound)
-    (q : r ≡ piece_found u reference least (piece_here u.class u.alphabet frame w)) where
+module _ (u : Unit) (reference frame symbols : List ℕ) (mapped : ℕ) (w : PieceWalk) (g : Walking u.class u.alphabet frame symbols mapped w) (text least : ℕ) (x : OrRefused PieceFound)
+    (q : x ≡ piece_found u reference least (piece_here u.class u.alphabet frame w)) where
   abbrev all : List Piece
   all = pieces_left u.class u.alphabet frame symbols mapped w
 
   abbrev next : PieceWalk
   next = next_piece u.class frame symbols mapped w
 
-  pub turn_out : 2 ≤ w.left → (r.refusal ≡ fine → ⊥) → record { refusal = r.refusal; text = 0 } ≡ pieces_found u reference text least all
-  turn_out h z =
-      pieces_refused u reference text least _ _ r q z ∙ ap (λ (l : List Piece). pieces_found u reference text least l) (sym (behind_more u.class u.alphabet frame symbols mapped w g h))
+  pub turn_out : 2 ≤ w.left → (n : Refusal) → x ≡ Err n → Err n ≡ pieces_found u reference text least all
+  turn_out h n z =
+      pieces_refused u reference text least _ _ x q n z ∙ ap (λ (l : List Piece). pieces_found u reference text least l) (sym (behind_more u.class u.alphabet frame symbols mapped w g h))
 
-  pub turn_on : 2 ≤ w.left → r.refusal ≡ fine
+  pub turn_on : 2 ≤ w.left → (r : PieceFound) → x ≡ Ok r
       → pieces_found u reference (text + r.text) (r.end + 1) (pieces_left u.class u.alphabet frame symbols mapped next) ≡ pieces_found u reference text least all
-  turn_on h z =
-      pieces_gone u reference text least _ _ r q z ∙ ap (λ (l : List Piece). pieces_found u reference text least l) (sym (behind_more u.class u.alphabet frame symbols mapped w g h))
+  turn_on h r z =
+      pieces_gone u reference text least _ _ x q r z ∙ ap (λ (l : List Piece). pieces_found u reference text least l) (sym (behind_more u.class u.alphabet frame symbols mapped w g h))
 
-  pub last_out : w.left ≤ 1 → (r.refusal ≡ fine → ⊥) → record { refusal = r.refusal; text = 0 } ≡ pieces_found u reference text least all
-  last_out h z =
-      pieces_refused u reference text least _ _ r q z ∙ ap (λ (l : List Piece). pieces_found u reference text least l) (sym (behind_last u.class u.alphabet frame symbols mapped w g h))
+  pub last_out : w.left ≤ 1 → (n : Refusal) → x ≡ Err n → Err n ≡ pieces_found u reference text least all
+  last_out h n z =
+      pieces_refused u reference text least _ _ x q n z ∙ ap (λ (l : List Piece). pieces_found u reference text least l) (sym (behind_last u.class u.alphabet frame symbols mapped w g h))
 
-  pub last_fine : w.left ≤ 1 → r.refusal ≡ fine → record { refusal = fine; text = text + r.text } ≡ pieces_found u reference text least all
-  last_fine h z =
+  -- wherever it stands
+  pub found_out : (n : Refusal) → x ≡ Err n → Err n ≡ pieces_found u reference text least all
+  found_out n z = by_test (ltb w.left 2) (λ t. last_out (omega (arith, ltb-true w.left 2 t)) n z) (λ t. turn_out (ltb-false w.left 2 t) n z)
+
+  pub last_fine : w.left ≤ 1 → (r : PieceFound) → x ≡ Ok r → Ok (text + r.text) ≡ pieces_found u reference text least all
+  last_fine h r z =
       pieces_over u reference (text + r.text) (r.end + 1)
-      ∙ pieces_gone u reference text least _ _ r q z
+      ∙ pieces_gone u reference text least _ _ x q r z
       ∙ ap (λ (l : List Piece). pieces_found u reference text least l) (sym (behind_last u.class u.alphabet frame symbols mapped w g h))
 
 -- from its first piece on, it is the whole read

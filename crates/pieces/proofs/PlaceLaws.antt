@@ -2,10 +2,10 @@
 -- Assumes nothing.
 use mathlib.Core.Path.{◌≡◌}
 use Prim.Native.Nat.{ℕ, ◌+◌, ◌≤◌}
-use native.Mathlib.Omega.{arith}
 use borrow.Author.Tests.{ltb-false}
 use lib.Dec.{ltb}
-use Rattle.refusal.specs.Numbers.{fine}
+use Rattle.refusal.specs.Answers.{fine}
+use Rattle.refusal.proofs.AnswerLaws.{never_refused}
 use Rattle.frame.proofs.HexLaws.{by_test}
 use Rattle.pieces.specs.Place.{place_refusal}
 
@@ -17,7 +17,7 @@ pub record Inside (start end position taken : ℕ) : Type 0 where
 pub place_inside : (start end position taken : ℕ) → place_refusal start end position taken ≡ fine → Inside start end position taken
 unfolding place_refusal
 place_inside start end position taken q =
-    by_test (ltb position start) (λ a. let z = simp a at q in absurd (omega arith))
-    (λ a. by_test (ltb end position) (λ b. let z = simp (a, b) at q in absurd (omega arith))
-    (λ b. by_test (ltb (end + 1) (position + taken)) (λ d. let z = simp (a, b, d) at q in absurd (omega arith))
+    by_test (ltb position start) (λ a. never_refused (simp a at q))
+    (λ a. by_test (ltb end position) (λ b. never_refused (simp (a, b) at q))
+    (λ b. by_test (ltb (end + 1) (position + taken)) (λ d. never_refused (simp (a, b, d) at q))
     (λ d. record { from = ltb-false position start a; to = ltb-false end position b; last = ltb-false (end + 1) (position + taken) d })))

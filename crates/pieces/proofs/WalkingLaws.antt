@@ -1,6 +1,6 @@
 -- The laws of walking over a read's pieces: each is ready to be looked at, and those behind it can be walked over in their turn.
 -- Assumes nothing.
-use Prim.Native.Nat.{ℕ, ◌-◌, ◌≤◌}
+use Prim.Native.Nat.{ℕ, ◌+◌, ◌-◌, ◌<◌, ◌≤◌}
 use mathlib.Core.Path.{◌≡◌, sym, subst}
 use mathlib.Core.List.{List, [], ◌∷◌}
 use native.Mathlib.Omega.{arith}
@@ -109,3 +109,12 @@ module _ (class alphabet : ℕ) (frame symbols : List ℕ) (mapped : ℕ) (w : P
 
     pub next_left : next.left ≡ w.left - 1
     next_left = (next_kept class alphabet frame symbols mapped w g.cut h).left_is
+
+-- ---- a loop over all pieces but the last, which counts from 1
+
+-- in a turn two are left or more, and behind it the last
+pub more_left : {n i : ℕ} → i < n → 1 < n + 1 - i
+more_left h = omega arith
+
+pub last_only : {n i : ℕ} → n ≤ i → n + 1 - i ≤ 1
+last_only h = omega arith

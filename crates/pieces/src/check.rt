@@ -1,43 +1,26 @@
 // The pieces of a read, checked one by one behind its last edit: 13 for its place, then 10 for the reference. Nothing is written before all is known, so the check also answers how long the text will be.
-ghost use Rattle.std.specs.Prelude.{◌≡◌, ◌+◌, ◌*◌, ◌^◌, ◌<◌, ◌≤◌};
-ghost use Rattle.limits.specs.Limits.{most_read, most_edits, most_splice};
+ghost use Rattle.std.specs.Prelude.{◌≡◌, ◌+◌, ◌^◌, ◌<◌, ◌≤◌};
+ghost use Rattle.limits.specs.Limits.{most_splice};
 ghost use Rattle.edits.specs.Pieces.{begins_at, spliced_seg_mapped_length};
 ghost use Rattle.splices.specs.Located.{pieces_in};
 ghost use Rattle.splices.specs.Code.Walk.{piece_here};
 ghost use Rattle.bases.specs.Spliced.{piece_refusal};
-ghost use Rattle.pieces.specs.Code.Checked.{run_here, splice_text, piece_refused, piece_found, pieces_found, ReadyPiece, Looked, WalkBegun};
+ghost use Rattle.pieces.specs.Code.Checked.{run_here, splice_text, piece_found, pieces_found, Within, ReadyPiece, Looked, WalkBegun};
 
 use crate::place;
-use ecigar::check::EditsChecked;
+use ecigar::check::Extent;
 use ecigar::splice::splice_len;
 use edits::{Block, Run, run_of};
+use refusal::Refusal;
 use splices::Splices;
 use splices::walk::{PieceWalk, first_piece, next_piece};
 use unit::Unit;
 
-// What one piece comes to: the position behind it and the length of its text with the splice in front of it; or its refusal's number.
+// What an accepted piece comes to: the position behind it and the length of its text with the splice in front of it.
 #[derive(Clone, Copy)]
 pub struct PieceFound {
-    pub refusal: u32,
     pub end: u64,
     pub text: u32,
-}
-
-// What all pieces of a read come to: the length of its E-CIGAR without clips, or the first refusal's number.
-#[derive(Clone, Copy)]
-pub struct PiecesFound {
-    pub refusal: u32,
-    pub text: u32,
-}
-
-fn out_of_place(n: u32) -> PieceFound
-    ensures { result ≡ piece_refused n }
-{
-    PieceFound {
-        refusal: n,
-        end: 0,
-        text: 0,
-    }
 }
 
 // A piece's bases and edits.
@@ -59,14 +42,13 @@ fn under_piece(
     position: u32,
     taken: u32,
     w: PieceWalk,
-) -> u32
+) -> Result<(), Refusal>
     requires ready_piece { ReadyPiece unit.class unit.alphabet frame.now w }
     requires position_value { (position ≡ begins_at (piece_here unit.class unit.alphabet frame.now w)) × (taken ≡ spliced_seg_mapped_length (piece_here unit.class unit.alphabet frame.now w)) }
     ensures { result ≡ piece_refusal unit.alphabet reference.now unit.first (piece_here unit.class unit.alphabet frame.now w) }
 {
-    let found = bases::check_positions(reference, unit.first, unit.alphabet, position, taken);
-    if found == refusal::FINE {
-        return refusal::FINE;
+    if bases::check_positions(reference, unit.first, unit.alphabet, position, taken).is_ok() {
+        return Ok(());
     }
     let run = run_here(w);
     bases::check_piece(
@@ -100,51 +82,45 @@ fn settle_piece(
     w: PieceWalk,
     least: u64,
     position: u64,
-    taken: u32,
-    text: u32,
-) -> PieceFound
+    extent: Extent,
+) -> Result<PieceFound, Refusal>
     requires ready_piece { ReadyPiece unit.class unit.alphabet frame.now w }
-    requires looked { Looked unit.alphabet (piece_here unit.class unit.alphabet frame.now w) least position taken text }
-    ensures { (result ≡ piece_found unit reference.now least (piece_here unit.class unit.alphabet frame.now w)) × ((result.text ≤ 2 * most_read + 2 * most_edits + most_splice) × (result.end ≤ 2 ^ 33)) }
+    requires looked { Looked unit.alphabet (piece_here unit.class unit.alphabet frame.now w) least position extent.taken extent.text }
+    ensures { (result ≡ piece_found unit reference.now least (piece_here unit.class unit.alphabet frame.now w)) × Within result }
 {
-    let outside = place::refusal_of(unit, position, taken);
-    if outside != refusal::FINE {
-        return out_of_place(outside);
-    }
-    let unknown = under_piece(frame, unit, reference, position as u32, taken, w);
-    if unknown != refusal::FINE {
-        return out_of_place(unknown);
-    }
-    PieceFound {
-        refusal: refusal::FINE,
-        end: position + taken as u64,
-        text: splice_text(position, least) + text,
-    }
+    place::check(unit, position, extent.taken)?;
+    under_piece(frame, unit, reference, position as u32, extent.taken, w)?;
+    Ok(PieceFound {
+        end: position + extent.taken as u64,
+        text: splice_text(position, least) + extent.text,
+    })
 }
 
 // One piece: where it starts, what its edits take, where it ends, and the reference under it.
-fn check_piece(frame: &[u8], unit: Unit, reference: &[u8], w: PieceWalk, least: u64) -> PieceFound
+fn check_piece(
+    frame: &[u8],
+    unit: Unit,
+    reference: &[u8],
+    w: PieceWalk,
+    least: u64,
+) -> Result<PieceFound, Refusal>
     requires { ReadyPiece unit.class unit.alphabet frame.now w }
-    ensures { (result ≡ piece_found unit reference.now least (piece_here unit.class unit.alphabet frame.now w)) × ((result.text ≤ 2 * most_read + 2 * most_edits + most_splice) × (result.end ≤ 2 ^ 33)) }
+    ensures { (result ≡ piece_found unit reference.now least (piece_here unit.class unit.alphabet frame.now w)) × Within result }
 {
     let m = w.mapping;
     if m.above < m.below {
-        return out_of_place(refusal::POSITION_OUT);
+        return Err(Refusal::PositionOut);
     }
     let position = m.above - m.below;
     if position < least {
-        return out_of_place(refusal::POSITION_OUT);
+        return Err(Refusal::PositionOut);
     }
     let run = run_here(w);
-    match ecigar::check::check_piece(frame, unit.class, unit.alphabet, w.start, run) {
-        EditsChecked::Refused(n) => out_of_place(n),
-        EditsChecked::Fine { taken, text } => {
-            settle_piece(frame, unit, reference, w, least, position, taken, text)
-        }
-    }
+    let extent = ecigar::check::check_piece(frame, unit.class, unit.alphabet, w.start, run)?;
+    settle_piece(frame, unit, reference, w, least, position, extent)
 }
 
-// All pieces of a read at a position, in order.
+// All pieces of a read at a position, in order: the length of its E-CIGAR without clips.
 pub fn check_pieces(
     frame: &[u8],
     unit: Unit,
@@ -153,7 +129,7 @@ pub fn check_pieces(
     block: Block,
     splices: Splices,
     position: u64,
-) -> PiecesFound
+) -> Result<u32, Refusal>
     requires { WalkBegun unit.class unit.alphabet frame.now symbols.now block splices position }
     ensures { result ≡ pieces_found unit reference.now 0 0 (pieces_in unit.class unit.alphabet frame.now symbols.now block splices position) }
 {
@@ -161,29 +137,13 @@ pub fn check_pieces(
     let mut w = first_piece(frame, unit.class, block, splices, position);
     let mut least: u64 = 0;
     let mut text: u32 = 0;
-    let mut left = splices.count;
-    while 1 < left {
-        let found = check_piece(frame, unit, reference, w, least);
-        if found.refusal != refusal::FINE {
-            return PiecesFound {
-                refusal: found.refusal,
-                text: 0,
-            };
+    loop {
+        let found = check_piece(frame, unit, reference, w, least)?;
+        text += found.text;
+        if w.left <= 1 {
+            return Ok(text);
         }
         least = found.end + 1;
-        text += found.text;
         w = next_piece(frame, symbols, unit.class, run.mapped, w);
-        left -= 1;
-    }
-    let last = check_piece(frame, unit, reference, w, least);
-    if last.refusal != refusal::FINE {
-        return PiecesFound {
-            refusal: last.refusal,
-            text: 0,
-        };
-    }
-    PiecesFound {
-        refusal: refusal::FINE,
-        text: text + last.text,
     }
 }

@@ -70,11 +70,9 @@ pub fn write_bases(
     let run = run_of(block);
     let mut w = first_piece(frame, unit.class, block, splices, position as u64);
     let mut next = at;
-    let mut left = splices.count;
-    while 1 < left {
+    for _ in 1..splices.count {
         next = put_bases(out, next, frame, unit, reference, w);
         w = next_piece(frame, symbols, unit.class, run.mapped, w);
-        left -= 1;
     }
     put_bases(out, next, frame, unit, reference, w)
 }
@@ -100,12 +98,10 @@ fn taken_by(frame: &[u8], unit: Unit, w: PieceWalk) -> u32
     let step = width(unit.class);
     let mut taken = w.until - w.start;
     let mut at = w.edits_at;
-    let mut left = w.edits;
-    while 0 < left {
+    for _ in 0..w.edits {
         let e = edit_at(frame, unit.class, unit.alphabet, at);
         taken += gain(e);
         at += step;
-        left -= 1;
     }
     taken - w.edits
 }
@@ -169,12 +165,10 @@ pub fn write_text(
     let mut w = first_piece(frame, unit.class, block, splices, position as u64);
     let mut least: u64 = 0;
     let mut next = at;
-    let mut left = splices.count;
-    while 1 < left {
+    for _ in 1..splices.count {
         next = put_text(out, next, frame, unit, block.rcomp, w, least);
         least = least_behind(frame, unit, w);
         w = next_piece(frame, symbols, unit.class, run.mapped, w);
-        left -= 1;
     }
     put_text(out, next, frame, unit, block.rcomp, w, least)
 }

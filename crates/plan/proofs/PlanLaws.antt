@@ -9,14 +9,16 @@ use native.Mathlib.Omega.{arith}
 use borrow.Author.Tests.{ltb-true, ltb-false, eqb-true, eqb-false}
 use lib.Dec.{ltb, leb, eqb}
 use lib.ListN.{length, get_or}
-use Rattle.refusal.specs.Numbers.{malformed, misframed, position_out}
+use Rattle.std.specs.Prelude.{Ok, Err}
+use Rattle.refusal.specs.Answers.{OrRefused}
+use Rattle.refusal.specs.declared.Refusal.{Refusal}
+use Rattle.refusal.specs.declared.Refusal.TheVariants.{Misframed, PositionOut}
+use Rattle.refusal.proofs.AnswerLaws.{never_refused, ok_pair}
 use Rattle.limits.specs.Limits.{record_fields}
 use Rattle.frame.specs.Hex.{unhex}
 use Rattle.frame.specs.Line.{line_of}
 use Rattle.frame.specs.Field.{big_at, field_at}
-use Rattle.frame.specs.declared.line.Line.TheVariants.{Frame}
 use Rattle.frame.specs.declared.field.Cursor.{Cursor}
-use Rattle.frame.specs.declared.field.Field.TheVariants.{Value, Short}
 use Rattle.frame.proofs.HexLaws.{by_test, byte_lt}
 use Rattle.frame.proofs.Tests.{cond_of}
 use Rattle.frame.proofs.StepLaws.{past_line}
@@ -29,9 +31,8 @@ use Rattle.taking.specs.Steps.{Steps, sets, refuses, and_then, Came, came, stopp
 use Rattle.taking.specs.Reading.{Took, taken_in}
 use Rattle.taking.proofs.Reading.{taken_then, quiet_takes}
 use Rattle.taking.proofs.Decoding.{Ends, Any, ends_as, then_ends, decode_ends, CameThen, then_came}
-use Rattle.pairing.specs.Table60.{Decoded, mapping_pos}
-use Rattle.pairing.specs.Pairing.{link_of, paired, pair_steps, pair_of, pair_takes}
-use Rattle.pairing.specs.declared.LinkRead.TheVariants as pair
+use Rattle.pairing.specs.Table60.{mapping_pos}
+use Rattle.pairing.specs.Pairing.{link_of, paired as paired_of, pair_steps, pair_of, pair_takes}
 use Rattle.pairing.specs.declared.Link.{Link}
 use Rattle.block.specs.declared.unaligned.UnalignedBlock.{UnalignedBlock}
 use Rattle.block.specs.Head.{head_at}
@@ -39,33 +40,29 @@ use Rattle.block.specs.Code.Ready.{ReadyHead}
 use Rattle.block.specs.declared.head.BlockHead.{BlockHead}
 use Rattle.block.proofs.ReadyLaws.{head_ready}
 use Rattle.segment.specs.Segment.{placed_at, plain_at}
-use Rattle.segment.specs.declared.SegmentRead.{SegmentRead}
 use Rattle.segment.specs.declared.Placed.{Placed}
 use Rattle.segment.specs.declared.Segment.{Segment}
 use Rattle.segment.specs.declared.Segment.TheVariants.{Aligned, Unaligned, Absent}
-use Rattle.segment.specs.declared.SegmentRead.TheVariants as segment
 use Rattle.segment.proofs.SegmentLaws.{SegmentTaken, placed_taken, plain_taken, absent_taken}
 use Rattle.segment.proofs.StandardLaws.{SegmentAccepted, placed_accepted, placed_aligned, plain_unaligned}
 use Rattle.segment.proofs.PlaceLaws.{placed_inside}
-use Rattle.plan.specs.Plan.{plan, nothing_left_over, SegmentAt, segment_steps, aligned_steps, plain_steps, first_segment, second_segment, from_second, from_first, from_pos, record_steps, refused_reading, reading_by, from_kind, plan_of}
+use Rattle.plan.specs.Plan.{plan, nothing_left_over, SegmentAt, segment_steps, aligned_steps, plain_steps, first_segment, second_segment, from_second, from_first, from_pos, record_steps, reading_by, from_kind, plan_of}
 use Rattle.plan.specs.Code.Ready.{ReadyPlan}
 use Rattle.plan.specs.Said.{Second, alone, behind, Blocks, PlanTaken}
 use Rattle.plan.specs.declared.read.Plan.{Plan}
-use Rattle.plan.specs.declared.read.Planned.TheVariants.{Whole, Refused}
-use Rattle.plan.specs.declared.read.Reading.{Reading}
 use Rattle.plan.proofs.QuietLaws.{pos_quiet}
 use Rattle.plan.proofs.Steps.{first_plain, first_placed, second_placed, second_plain, one_segment, two_segments, pos_short, pos_out, pos_in, kind_short, kind_other, kind_right, left_over, none_left_over}
 
 -- ---- the steps of an accepted record
 
-never : {n : ℕ} {p : Plan} {st : State} → stopped n ≡ came p st → ⊥
+never : {n : Refusal} {p : Plan} {st : State} → stopped n ≡ came p st → ⊥
 never e = let z : ◌≡◌ {A = ℕ} 0 1 = cc in omega arith
 
-field_there : (k : ℕ) (frame : List ℕ) (at : ℕ) → leb (at + k) (length frame) ≡ true → field_at k frame at ≡ Value (big_at k frame at) record { at = at + k }
+field_there : (k : ℕ) (frame : List ℕ) (at : ℕ) → leb (at + k) (length frame) ≡ true → field_at k frame at ≡ Ok (big_at k frame at, record { at = at + k })
 unfolding field_at
 field_there k frame at t = rw t refl
 
-field_short : (k : ℕ) (frame : List ℕ) (at : ℕ) → leb (at + k) (length frame) ≡ false → field_at k frame at ≡ Short
+field_short : (k : ℕ) (frame : List ℕ) (at : ℕ) → leb (at + k) (length frame) ≡ false → field_at k frame at ≡ Err Misframed
 unfolding field_at
 field_short k frame at t = rw t refl
 
@@ -77,7 +74,7 @@ module _ (u : Unit) (reference symbols counts frame : List ℕ) (p : Plan) (move
   as_steps : (st : State) (a b : Steps Plan) → a ≡ b → Comes st b → Comes st a
   as_steps st a b e q = ap (decode symbols counts st) e ∙ q
 
-  refuses_never : (st : State) (n : ℕ) (b : Steps Plan) → refuses n ≡ b → Comes st b → ⊥
+  refuses_never : (st : State) (n : Refusal) (b : Steps Plan) → refuses n ≡ b → Comes st b → ⊥
   unfolding decode
   refuses_never st n b e q = never (as_steps st (refuses n) b e q)
 
@@ -85,7 +82,7 @@ module _ (u : Unit) (reference symbols counts frame : List ℕ) (p : Plan) (move
   unfolding decode
   finished_is st q at e =
       by_test (ltb at (length frame))
-      (λ t. absurd (refuses_never st misframed _ (left_over frame q at (ltb-true _ _ t)) e))
+      (λ t. absurd (refuses_never st Misframed _ (left_over frame q at (ltb-true _ _ t)) e))
       (λ t. let w : came q st ≡ came p moved = as_steps st (sets q) _ (none_left_over frame q at (ltb-false _ _ t)) e in (cc, cc))
 
   -- what is so of the record's link, position and blocks
@@ -135,9 +132,9 @@ module _ (u : Unit) (reference symbols counts frame : List ℕ) (p : Plan) (move
       (λ h.
       by_test (eqb (big_at 4 frame at) 0)
       (λ z. first_blocks link _ (at + 4) st (as_steps st _ _ (pos_in u reference symbols frame link at _ _ f (inr (eqb-true _ _ h, eqb-true _ _ z))) q))
-      (λ z. absurd (refuses_never st position_out _ (pos_out u reference symbols frame link at _ _ f (eqb-true _ _ h) (eqb-false _ _ z)) q)))
+      (λ z. absurd (refuses_never st PositionOut _ (pos_out u reference symbols frame link at _ _ f (eqb-true _ _ h) (eqb-false _ _ z)) q)))
       (λ h. first_blocks link _ (at + 4) st (as_steps st _ _ (pos_in u reference symbols frame link at _ _ f (inl (eqb-false _ _ h))) q)))
-      (λ t. absurd (refuses_never st misframed _ (pos_short u reference symbols frame link at (field_short 4 frame at t)) q))
+      (λ t. absurd (refuses_never st Misframed _ (pos_short u reference symbols frame link at (field_short 4 frame at t)) q))
 
   -- the pair symbols first
   record PairThen (st : State) : Type 0 where
@@ -152,18 +149,18 @@ module _ (u : Unit) (reference symbols counts frame : List ℕ) (p : Plan) (move
       let f = field_there 1 frame 0 t in
       by_test (eqb (big_at 1 frame 0) kind_record)
       (λ k. record { kind = eqb-true _ _ k; right = kind_right u reference symbols frame _ _ f (eqb-true _ _ k); pairs = then_came symbols counts (pair_steps u) (λ d. from_pos u reference symbols frame (link_of d) 1) st p moved (as_steps st _ _ (kind_right u reference symbols frame _ _ f (eqb-true _ _ k)) q) })
-      (λ k. absurd (refuses_never st misframed _ (kind_other u reference symbols frame _ _ f (eqb-false _ _ k)) q)))
-      (λ t. absurd (refuses_never st misframed _ (kind_short u reference symbols frame (field_short 1 frame 0 t)) q))
+      (λ k. absurd (refuses_never st Misframed _ (kind_other u reference symbols frame _ _ f (eqb-false _ _ k)) q)))
+      (λ t. absurd (refuses_never st Misframed _ (kind_short u reference symbols frame (field_short 1 frame 0 t)) q))
 
 -- ---- what is so of every segment that is read
 
-read_ends : (P : SegmentAt → Type 0) (x : SegmentRead) → ((p : Segment) (next : Cursor) → x ≡ segment.Whole p next → P record { segment = p; next = next }) → Ends Any P (segment_steps x)
-read_ends P (segment.Whole p next) h = h p next refl
-read_ends P (segment.Refused n) h = tt
+read_ends : (P : SegmentAt → Type 0) (x : OrRefused (Segment × Cursor)) → ((p : Segment) (next : Cursor) → x ≡ Ok (p, next) → P record { segment = p; next = next }) → Ends Any P (segment_steps x)
+read_ends P (Ok (p, next)) h = h p next refl
+read_ends P (Err n) h = tt
 
 -- of an aligned one, behind a head that was accepted
 aligned_ends : (u : Unit) (reference symbols frame : List ℕ) (position at : ℕ) (P : SegmentAt → Type 0)
-    → ((h : BlockHead) (p : Segment) (next : Cursor) → ReadyHead u.class frame h → placed_at u reference symbols frame position h ≡ segment.Whole p next → P record { segment = p; next = next })
+    → ((h : BlockHead) (p : Segment) (next : Cursor) → ReadyHead u.class frame h → placed_at u reference symbols frame position h ≡ Ok (p, next) → P record { segment = p; next = next })
     → Ends Any P (aligned_steps u reference symbols frame position at)
 unfolding aligned_steps
 aligned_ends u reference symbols frame position at P f =
@@ -214,18 +211,12 @@ module _ (u : Unit) (reference symbols frame : List ℕ) (bytes : (i : ℕ) → 
 -- ---- the whole line
 
 module _ (u : Unit) (reference symbols counts : List ℕ) (state : State) (line : List ℕ) (p : Plan) (moved : State) where
-  abbrev whole : Reading
-  whole = record { planned = Whole p; state = moved }
-
-  refused_never : (n : ℕ) → refused_reading n state ≡ whole → ⊥
-  refused_never n e = let w : Refused n ≡ Whole p = ap (λ (r : Reading). r.planned) e in let z : ◌≡◌ {A = ℕ} 0 1 = cc in omega arith
-
-  reading_came : (x : Came Plan) → reading_by state x ≡ whole → x ≡ came p moved
-  reading_came (came q next) e = let a : Whole q ≡ Whole p = ap (λ (r : Reading). r.planned) e in let b : next ≡ moved = ap (λ (r : Reading). r.state) e in cc
-  reading_came (stopped n) e = absurd (refused_never n e)
+  reading_came : (x : Came Plan) → reading_by x ≡ Ok (p, moved) → x ≡ came p moved
+  reading_came (came q next) e = let w = ok_pair e in rw (w.0, w.1) refl
+  reading_came (stopped n) e = never_refused e
 
   -- what the steps came to
-  steps_taken : (size : ℕ) → line_of line ≡ Frame size → decode symbols counts state (record_steps u reference symbols (unhex line)) ≡ came p moved → PlanTaken u reference symbols counts state line p moved
+  steps_taken : (size : ℕ) → line_of line ≡ Ok size → decode symbols counts state (record_steps u reference symbols (unhex line)) ≡ came p moved → PlanTaken u reference symbols counts state line p moved
   unfolding pair_of
   steps_taken size w q =
       let k = kind_blocks u reference symbols counts (unhex line) p moved state q in
@@ -235,14 +226,12 @@ module _ (u : Unit) (reference symbols counts : List ℕ) (state : State) (line 
         size = size;
         well_formed = w;
         kind = k.kind;
-        linked = ap (λ (x : Came Decoded). (paired state x).answer) d.first ∙ ap pair.Linked (sym b.link_is);
+        paired = d.middle;
+        linked = ap paired_of d.first ∙ ap (λ (x : Link). Ok (x, d.middle)) (sym b.link_is);
         pos_is = b.pos_is;
-        blocks = ap_blocks d.middle (sym (ap (λ (x : Came Decoded). (paired state x).state) d.first)) b.blocks;
+        blocks = b.blocks;
         steps = q;
-        takes =
-            both k
-            ∙ ap (λ (x : State). pair_takes u symbols state ++ taken_in symbols x (blocks_of (link_of d.value))) (sym (ap (λ (x : Came Decoded). (paired state x).state) d.first))
-            ∙ ap (λ (x : Link). pair_takes u symbols state ++ taken_in symbols (pair_of u symbols counts state).state (blocks_of x)) (sym b.link_is);
+        takes = both k ∙ ap (λ (x : Link). pair_takes u symbols state ++ taken_in symbols d.middle (blocks_of x)) (sym b.link_is);
         takes_pair =
             λ spliceless.
             both k
@@ -257,13 +246,10 @@ module _ (u : Unit) (reference symbols counts : List ℕ) (state : State) (line 
       both : (k : PairThen u reference symbols counts (unhex line) p moved state) → taken_in symbols state (record_steps u reference symbols (unhex line)) ≡ pair_takes u symbols state ++ taken_in symbols k.pairs.middle (blocks_of (link_of k.pairs.value))
       both k = ap (taken_in symbols state) (sym k.right) ∙ taken_then symbols counts (pair_steps u) (λ x. blocks_of (link_of x)) state k.pairs.value k.pairs.middle k.pairs.first
 
-      ap_blocks : (a : State) {x : State} → a ≡ x → Blocks u reference symbols counts (unhex line) record_fields a p moved → Blocks u reference symbols counts (unhex line) record_fields x p moved
-      ap_blocks a e b = rw e at b
-
-  pub plan_taken : plan_of u reference symbols counts state line ≡ record { planned = Whole p; state = moved } → PlanTaken u reference symbols counts state line p moved
+  pub plan_taken : plan_of u reference symbols counts state line ≡ Ok (p, moved) → PlanTaken u reference symbols counts state line p moved
   unfolding plan_of from_kind
   plan_taken q =
-      let l = past_line (refused_reading malformed state) (refused_never malformed) (line_of line) _ q in
+      let l = past_line Err (λ n z. never_refused z) (line_of line) _ q in
       steps_taken l.bytes l.frame (reading_came (decode symbols counts state (record_steps u reference symbols (unhex line))) l.rest)
 
   pub plan_ready : UnitValid u → u.end < 2 ^ 32 → PlanTaken u reference symbols counts state line p moved → ReadyPlan u reference symbols (unhex line) p
@@ -341,7 +327,7 @@ module _ (u : Unit) (reference symbols counts frame : List ℕ) where
       all_at : (position place : ℕ) → u.class ≤ class_hm → Ends Any (λ s. At position s.segment) (aligned_steps u reference symbols frame position place)
       all_at position place last =
           aligned_ends u reference symbols frame position place _
-          (λ h s next r e i. placed_accepted u reference symbols frame position q next h r valid.class_least last (e ∙ ap (λ (x : Segment). segment.Whole x next) i))
+          (λ h s next r e i. placed_accepted u reference symbols frame position q next h r valid.class_least last (e ∙ ap (λ (x : Segment). Ok (x, next)) i))
 
       not_plain : {position : ℕ} {s : Segment} → IsPlain s → At position s
       not_plain w e = absurd (let z : Aligned q ≡ Unaligned w.0 = sym e ∙ w.1 in let y : ◌≡◌ {A = ℕ} 0 1 = cc in omega arith)

@@ -8,7 +8,6 @@ use native.Mathlib.Omega.{arith}
 use borrow.Author.Tests.{ltb-true, eqb-false}
 use lib.Dec.{ltb, eqb}
 use lib.ListN.{length}
-use Rattle.frame.specs.Field.{field_at}
 use Rattle.frame.proofs.Tests.{one_of, cond_of}
 use Rattle.frame.proofs.StepLaws.{by_field}
 use Rattle.unit.specs.Unit.{class_i, class_hm, class_u, most_segments}
@@ -21,8 +20,9 @@ use Rattle.block.proofs.Steps.{head_quiet}
 use Rattle.segment.specs.Segment.{placed_at, plain_at}
 use Rattle.segment.specs.declared.Segment.{Segment}
 use Rattle.segment.specs.declared.Segment.TheVariants.{Absent}
-use Rattle.segment.specs.declared.SegmentRead.{SegmentRead}
-use Rattle.segment.specs.declared.SegmentRead.TheVariants as segment
+use Rattle.std.specs.Prelude.{Ok, Err}
+use Rattle.refusal.specs.Answers.{OrRefused}
+use Rattle.frame.specs.declared.field.Cursor.{Cursor}
 use Rattle.plan.specs.Plan.{plan, nothing_left_over, SegmentAt, segment_steps, aligned_steps, first_segment, second_segment, from_second, from_first, from_pos}
 use Rattle.plan.specs.declared.read.Plan.{Plan}
 
@@ -32,9 +32,9 @@ QuietSegment p = Quiet p
 abbrev QuietPlan : Steps Plan → Type 0
 QuietPlan p = Quiet p
 
-read_quiet : (x : SegmentRead) → QuietSegment (segment_steps x)
-read_quiet (segment.Whole p next) = tt
-read_quiet (segment.Refused n) = tt
+read_quiet : (x : OrRefused (Segment × Cursor)) → QuietSegment (segment_steps x)
+read_quiet (Ok (p, next)) = tt
+read_quiet (Err n) = tt
 
 module _ (u : UnitOf) (reference symbols frame : List ℕ) (spliceless : (u.class < class_i) ⊎ (u.class ≡ class_u)) where
   aligned_quiet : u.class < class_i → (position at : ℕ) → QuietSegment (aligned_steps u reference symbols frame position at)
@@ -71,7 +71,7 @@ module _ (u : UnitOf) (reference symbols frame : List ℕ) (spliceless : (u.clas
     pub pos_quiet : (at : ℕ) → QuietPlan (from_pos u reference symbols frame link at)
     unfolding from_pos
     pos_quiet at =
-        by_field QuietPlan (field_at 4 frame at) _ _ tt
+        by_field QuietPlan 4 frame at _ _ tt
         (λ pos next. one_of QuietPlan (eqb u.class class_u) _ _
         (one_of QuietPlan (eqb pos 0) _ _ (from_first_quiet pos next.at) tt)
         (from_first_quiet pos next.at))

@@ -4,11 +4,13 @@ use mathlib.Core.Path.{◌≡◌, sym}
 use mathlib.Core.Bool.{Bool, true, false, cond}
 use mathlib.Core.List.{List, [], ◌∷◌}
 use Prim.Native.Nat.{ℕ, zero, suc, ◌<◌, ◌≤◌}
-use native.Mathlib.Omega.{arith}
-use borrow.Author.Tests.{ltb-false, leb-false, eqb-true, eqb-false}
-use lib.Dec.{ltb, leb, eqb, lit≤}
+use borrow.Author.Tests.{ltb-false, leb-false}
+use lib.Dec.{ltb, leb, lit≤}
 use lib.ListN.{length, get_or}
-use Rattle.refusal.specs.Numbers.{fine, misframed, count_out, missing}
+use Rattle.std.specs.Prelude.{⊤, Err}
+use Rattle.refusal.specs.Answers.{OrRefused, fine}
+use Rattle.refusal.specs.declared.Refusal.TheVariants.{Misframed, CountOut, Missing}
+use Rattle.refusal.proofs.AnswerLaws.{past_checked, never_refused}
 use Rattle.frame.proofs.HexLaws.{by_test, false_true}
 use Rattle.unit.specs.Unit.{most_reference, unit_refusal}
 use Rattle.unit.specs.Pairs.{subsequences, most_symbols, table_length}
@@ -28,7 +30,7 @@ counts_within (n ∷ ns) e zero = by_test (ltb most_symbols n) (λ t. false_true
 counts_within (n ∷ ns) e (suc i) = by_test (ltb most_symbols n) (λ t. false_true (sym (simp t at e))) (λ t. counts_within ns (simp t at e) i)
 
 -- a flag that refuses and is not set
-past_flag : (b : Bool) (bad x y : ℕ) → (bad ≡ y → ⊥) → cond b bad x ≡ y → (b ≡ false) × (x ≡ y)
+past_flag : (b : Bool) (bad x y : OrRefused ⊤) → (bad ≡ y → ⊥) → cond b bad x ≡ y → (b ≡ false) × (x ≡ y)
 past_flag b bad x y other e = by_test b (λ t. absurd (other (simp t at e))) (λ t. (t, simp t at e))
 
 pub record LentTaken (u : Unit) (bases places : ℕ) (counts : List ℕ) (state : State) : Type 0 where
@@ -43,21 +45,19 @@ pub record LentTaken (u : Unit) (bases places : ℕ) (counts : List ℕ) (state 
 pub lent_taken : (u : Unit) (bases places : ℕ) (counts : List ℕ) (state : State) → lent_refusal u bases places counts state ≡ fine → LentTaken u bases places counts state
 unfolding lent_refusal state_refusal
 lent_taken u bases places counts state q =
-    by_test (eqb (unit_refusal u) fine)
-    (λ t.
-    let a = past_refusal misframed (λ z. omega arith) most_reference bases _ (simp t at q) in
-    let b = past_match_lem count_out (λ z. omega arith) places table_length _ a.1 in
-    let c = past_match_lem count_out (λ z. omega arith) (length counts) subsequences _ b.1 in
-    let d = past_flag (counts_out counts) count_out _ fine (λ z. omega arith) c.1 in
-    let f = past_flag (leb u.records state.number) missing _ fine (λ z. omega arith) d.1 in
-    let g : within state counts ≡ true = by_test (within state counts) (λ w. w) (λ w. absurd (let z : missing ≡ fine = simp w at f.1 in omega arith)) in
+    let t = past_checked (unit_refusal u) _ tt q in
+    let a = past_refusal (Err Misframed) (λ z. never_refused z) most_reference bases _ t.1 in
+    let b = past_match_lem (Err CountOut) (λ z. never_refused z) places table_length _ a.1 in
+    let c = past_match_lem (Err CountOut) (λ z. never_refused z) (length counts) subsequences _ b.1 in
+    let d = past_flag (counts_out counts) (Err CountOut) _ fine (λ z. never_refused z) c.1 in
+    let f = past_flag (leb u.records state.number) (Err Missing) _ fine (λ z. never_refused z) d.1 in
+    let g : within state counts ≡ true = by_test (within state counts) (λ w. w) (λ w. never_refused (simp w at f.1)) in
     record {
-      unit = valid_is u (eqb-true _ _ t);
+      unit = valid_is u t.0;
       reference = a.0;
       table = b.0;
       counts_all = c.0;
       counts_fit = counts_within counts d.0;
       in_count = leb-false _ _ f.0;
       within = within_each state.index counts g;
-    })
-    (λ t. absurd (eqb-false _ _ t (simp t at q)))
+    }

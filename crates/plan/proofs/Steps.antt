@@ -4,13 +4,18 @@ use mathlib.Core.Path.{◌≡◌, refl, sym, ap, ◌∙◌}
 use mathlib.Core.List.{List}
 use mathlib.Core.Logic.{◌⊎◌, ⊎_elim}
 use Prim.Native.Nat.{ℕ, ◌<◌, ◌≤◌}
-use native.Mathlib.Omega.{arith}
+use lib.Dec.{ltb}
 use lib.ListN.{length}
+use Rattle.frame.proofs.Tests.{by_test}
+use Rattle.plan.specs.Code.Ended.{ended_at}
 use borrow.Author.Tests.{lt-ltb, le-ltb, eq-eqb, ne_eqb}
-use Rattle.refusal.specs.Numbers.{misframed, position_out}
-use Rattle.frame.specs.Field.{field_at}
+use Rattle.std.specs.Prelude.{Ok, Err}
+use Rattle.refusal.specs.Answers.{OrRefused}
+use Rattle.refusal.specs.declared.Refusal.{Refusal}
+use Rattle.refusal.specs.declared.Refusal.TheVariants.{Misframed, PositionOut}
+use Rattle.refusal.proofs.AnswerLaws.{never_accepted, never_refused}
 use Rattle.frame.specs.declared.field.Cursor.{Cursor}
-use Rattle.frame.specs.declared.field.Field.TheVariants.{Value, Short}
+use Rattle.frame.specs.Field.{field_at}
 use Rattle.unit.specs.Kinds.{kind_record}
 use Rattle.unit.specs.Unit.{class_hm, class_u, most_segments}
 use Rattle.unit.specs.declared.Unit.{Unit}
@@ -25,13 +30,8 @@ use Rattle.block.specs.declared.head.BlockHead.{BlockHead}
 use Rattle.segment.specs.Segment.{placed_at, plain_at}
 use Rattle.segment.specs.declared.Segment.{Segment}
 use Rattle.segment.specs.declared.Segment.TheVariants.{Absent}
-use Rattle.segment.specs.declared.SegmentRead.{SegmentRead}
-use Rattle.segment.specs.declared.SegmentRead.TheVariants as segment
-use Rattle.plan.specs.declared.segments.SegmentMoved.{SegmentMoved}
-use Rattle.plan.specs.Code.Settled.{segment_settled}
-use Rattle.plan.specs.Plan.{plan, nothing_left_over, SegmentAt, segment_steps, aligned_steps, plain_steps, segment_moved, first_segment, second_segment, from_second, from_first, from_pos, record_steps, refused_reading, reading_by}
+use Rattle.plan.specs.Plan.{plan, nothing_left_over, SegmentAt, segment_steps, aligned_steps, plain_steps, segment_moved, first_segment, second_segment, from_second, from_first, from_pos, record_steps, reading_by}
 use Rattle.plan.specs.declared.read.Plan.{Plan}
-use Rattle.plan.specs.declared.read.Reading.{Reading}
 
 -- ---- which steps
 
@@ -64,12 +64,12 @@ module _ (u : Unit) (reference symbols frame : List ℕ) where
         two_segments h = rw (le-ltb _ _ h) refl
 
   module _ (link : Link) (at : ℕ) where
-    pub pos_short : field_at 4 frame at ≡ Short → refuses misframed ≡ from_pos u reference symbols frame link at
+    pub pos_short : field_at 4 frame at ≡ Err Misframed → refuses Misframed ≡ from_pos u reference symbols frame link at
     unfolding from_pos
     pos_short e = rw e refl
 
-    module _ (pos : ℕ) (c : Cursor) (e : field_at 4 frame at ≡ Value pos c) where
-      pub pos_out : u.class ≡ class_u → (pos ≡ 0 → ⊥) → refuses position_out ≡ from_pos u reference symbols frame link at
+    module _ (pos : ℕ) (c : Cursor) (e : field_at 4 frame at ≡ Ok (pos, c)) where
+      pub pos_out : u.class ≡ class_u → (pos ≡ 0 → ⊥) → refuses PositionOut ≡ from_pos u reference symbols frame link at
       unfolding from_pos
       pos_out h k = rw (e, eq-eqb u.class class_u h, ne_eqb pos 0 k) refl
 
@@ -77,12 +77,12 @@ module _ (u : Unit) (reference symbols frame : List ℕ) where
       unfolding from_pos
       pos_in h = ⊎_elim (λ k. rw (e, ne_eqb u.class class_u k) refl) (λ k. rw (e, eq-eqb u.class class_u k.0, eq-eqb pos 0 k.1) refl) h
 
-  pub kind_short : field_at 1 frame 0 ≡ Short → refuses misframed ≡ record_steps u reference symbols frame
+  pub kind_short : field_at 1 frame 0 ≡ Err Misframed → refuses Misframed ≡ record_steps u reference symbols frame
   unfolding record_steps
   kind_short e = rw e refl
 
-  module _ (kind : ℕ) (c : Cursor) (e : field_at 1 frame 0 ≡ Value kind c) where
-    pub kind_other : (kind ≡ kind_record → ⊥) → refuses misframed ≡ record_steps u reference symbols frame
+  module _ (kind : ℕ) (c : Cursor) (e : field_at 1 frame 0 ≡ Ok (kind, c)) where
+    pub kind_other : (kind ≡ kind_record → ⊥) → refuses Misframed ≡ record_steps u reference symbols frame
     unfolding record_steps
     kind_other h = rw (e, ne_eqb _ _ h) refl
 
@@ -91,7 +91,7 @@ module _ (u : Unit) (reference symbols frame : List ℕ) where
     kind_right h = rw (e, eq-eqb _ _ h) refl
 
 module _ (frame : List ℕ) (p : Plan) (at : ℕ) where
-  pub left_over : at < length frame → refuses misframed ≡ nothing_left_over frame p at
+  pub left_over : at < length frame → refuses Misframed ≡ nothing_left_over frame p at
   unfolding nothing_left_over
   left_over h = rw (lt-ltb _ _ h) refl
 
@@ -101,74 +101,83 @@ module _ (frame : List ℕ) (p : Plan) (at : ℕ) where
 
 -- ---- what reading them hands back
 
--- what takes no symbol, behind what did
-module _ (x : SegmentMoved) (answer : SegmentRead) (next back : State) where
-  pub settled_refused : (n : ℕ) → answer ≡ segment.Refused n → x ≡ segment_moved back (stopped n) → x ≡ segment_settled answer next back
-  settled_refused n h k = rw h k
+module _ (symbols counts : List ℕ) (st : State) where
+  pub moved_steps : (x : OrRefused (Segment × Cursor × State)) (p q : Steps SegmentAt) → p ≡ q → x ≡ segment_moved (decode symbols counts st p) → x ≡ segment_moved (decode symbols counts st q)
+  moved_steps x p q e h = h ∙ ap (λ (r : Steps SegmentAt). segment_moved (decode symbols counts st r)) e
 
-  pub settled_whole : (p : Segment) (c : Cursor) → answer ≡ segment.Whole p c → x ≡ record { answer = segment.Whole p c; state = next } → x ≡ segment_settled answer next back
-  settled_whole p c h k = rw h k
+  module _ (u : Unit) (frame : List ℕ) (at : ℕ) where
+    -- what takes no symbol
+    module _ (y : OrRefused (Segment × Cursor)) (is : y ≡ plain_at u frame at) where
+      pub plain_moved : (p : Segment) (c : Cursor) → y ≡ Ok (p, c) → Ok (p, c, st) ≡ segment_moved (decode symbols counts st (plain_steps u frame at))
+      unfolding decode
+      plain_moved p c e = rw (← is, e) refl
 
-settled_moved : (symbols counts : List ℕ) (next back : State) (x : SegmentRead) → segment_settled x next back ≡ segment_moved back (decode symbols counts next (segment_steps x))
-unfolding decode
-settled_moved symbols counts next back (segment.Whole p c) = refl
-settled_moved symbols counts next back (segment.Refused n) = refl
+      pub plain_refused : (n : Refusal) → y ≡ Err n → Err n ≡ segment_moved (decode symbols counts st (plain_steps u frame at))
+      unfolding decode
+      plain_refused n e = rw (← is, e) refl
 
-pub moved_steps : (x : SegmentMoved) (symbols counts : List ℕ) (st : State) (p q : Steps SegmentAt) → p ≡ q → x ≡ segment_moved st (decode symbols counts st p) → x ≡ segment_moved st (decode symbols counts st q)
-moved_steps x symbols counts st p q e h = h ∙ ap (λ (r : Steps SegmentAt). segment_moved st (decode symbols counts st r)) e
+    -- what the head takes, and then no more
+    module _ (reference : List ℕ) (position : ℕ) where
+      pub headless : (n : Refusal) → decode symbols counts st (head_at u.class frame position at) ≡ stopped n → Err n ≡ segment_moved (decode symbols counts st (aligned_steps u reference symbols frame position at))
+      unfolding aligned_steps
+      headless n e = ap segment_moved (sym (then_stops symbols counts (head_at u.class frame position at) (λ head. segment_steps (placed_at u reference symbols frame position head)) st n e))
 
-module _ (x : SegmentMoved) (u : Unit) (frame symbols counts : List ℕ) (st : State) where
-  pub plain_moved : (at : ℕ) (y : SegmentRead) → y ≡ plain_at u frame at → x ≡ segment_settled y st st → x ≡ segment_moved st (decode symbols counts st (plain_steps u frame at))
-  plain_moved at y e h = h ∙ settled_moved symbols counts st st y ∙ ap (λ (r : SegmentRead). segment_moved st (decode symbols counts st (segment_steps r))) e
+      module _ (h : BlockHead) (next : State) (e : decode symbols counts st (head_at u.class frame position at) ≡ came h next) (y : OrRefused (Segment × Cursor)) (is : y ≡ placed_at u reference symbols frame position h) where
+        behind_head : segment_moved (decode symbols counts next (segment_steps y)) ≡ segment_moved (decode symbols counts st (aligned_steps u reference symbols frame position at))
+        unfolding aligned_steps
+        behind_head =
+            ap (λ (r : OrRefused (Segment × Cursor)). segment_moved (decode symbols counts next (segment_steps r))) is
+            ∙ ap segment_moved (sym (then_goes symbols counts (head_at u.class frame position at) (λ head. segment_steps (placed_at u reference symbols frame position head)) st h next e))
 
-  module _ (reference : List ℕ) (position at : ℕ) where
-    pub headed : (h : BlockHead) (next : State) (y : SegmentRead) → decode symbols counts st (head_at u.class frame position at) ≡ came h next → y ≡ placed_at u reference symbols frame position h → x ≡ segment_settled y next st
-        → x ≡ segment_moved st (decode symbols counts st (aligned_steps u reference symbols frame position at))
-    unfolding aligned_steps
-    headed h next y e k q =
-        q
-        ∙ settled_moved symbols counts next st y
-        ∙ ap (λ (r : SegmentRead). segment_moved st (decode symbols counts next (segment_steps r))) k
-        ∙ ap (segment_moved st) (sym (then_goes symbols counts (head_at u.class frame position at) (λ head. segment_steps (placed_at u reference symbols frame position head)) st h next e))
+        pub headed : (p : Segment) (c : Cursor) → y ≡ Ok (p, c) → Ok (p, c, next) ≡ segment_moved (decode symbols counts st (aligned_steps u reference symbols frame position at))
+        unfolding decode
+        headed p c k = rw k at behind_head
 
-    pub headless : (n : ℕ) → decode symbols counts st (head_at u.class frame position at) ≡ stopped n → x ≡ segment_moved st (stopped n) → x ≡ segment_moved st (decode symbols counts st (aligned_steps u reference symbols frame position at))
-    unfolding aligned_steps
-    headless n e q = q ∙ ap (segment_moved st) (sym (then_stops symbols counts (head_at u.class frame position at) (λ head. segment_steps (placed_at u reference symbols frame position head)) st n e))
+        pub headed_refused : (n : Refusal) → y ≡ Err n → Err n ≡ segment_moved (decode symbols counts st (aligned_steps u reference symbols frame position at))
+        unfolding decode
+        headed_refused n k = rw k at behind_head
 
 -- what the steps of a segment came to, by what reading it handed back
-module _ (st : State) (x : Came SegmentAt) (m : SegmentMoved) (is : m ≡ segment_moved st x) where
-  pub segment_came : (p : Segment) (c : Cursor) → m.answer ≡ segment.Whole p c → x ≡ came record { segment = p; next = c } m.state
-  segment_came p c e = by x is
+module _ (x : Came SegmentAt) (m : OrRefused (Segment × Cursor × State)) (is : m ≡ segment_moved x) where
+  pub segment_came : (p : Segment) (c : Cursor) (next : State) → m ≡ Ok (p, c, next) → x ≡ came record { segment = p; next = c } next
+  segment_came p c next e = by x (sym is ∙ e)
     where
-      by : (y : Came SegmentAt) → m ≡ segment_moved st y → y ≡ came record { segment = p; next = c } m.state
-      by (came b next) q =
-          let s : m.state ≡ next = ap (λ (r : SegmentMoved). r.state) q in
-          let w : segment.Whole b.segment b.next ≡ segment.Whole p c = sym (ap (λ (r : SegmentMoved). r.answer) q) ∙ e in
-          let a : b.segment ≡ p = cc in
-          let d : b.next ≡ c = cc in
-          rw (a, d, s) refl
-      by (stopped n) q = absurd (let w : segment.Refused n ≡ segment.Whole p c = sym (ap (λ (r : SegmentMoved). r.answer) q) ∙ e in let z : ◌≡◌ {A = ℕ} 0 1 = cc in omega arith)
+      by : (y : Came SegmentAt) → segment_moved y ≡ Ok (p, c, next) → y ≡ came record { segment = p; next = c } next
+      by (came b after) q =
+          let all : ◌≡◌ {A = Segment × Cursor × State} (b.segment, b.next, after) (p, c, next) = cc in
+          rw (ap (λ (z : Segment × Cursor × State). z.0) all, ap (λ (z : Segment × Cursor × State). z.1) all, ap (λ (z : Segment × Cursor × State). z.2) all) refl
+      by (stopped n) q = never_refused q
 
-  pub segment_stopped : (n : ℕ) → m.answer ≡ segment.Refused n → x ≡ stopped n
-  segment_stopped n e = by x is
+  pub segment_stopped : (n : Refusal) → m ≡ Err n → x ≡ stopped n
+  segment_stopped n e = by x (sym is ∙ e)
     where
-      by : (y : Came SegmentAt) → m ≡ segment_moved st y → y ≡ stopped n
-      by (came b next) q = absurd (let w : segment.Whole b.segment b.next ≡ segment.Refused n = sym (ap (λ (r : SegmentMoved). r.answer) q) ∙ e in let z : ◌≡◌ {A = ℕ} 0 1 = cc in omega arith)
-      by (stopped k) q = let w : segment.Refused k ≡ segment.Refused n = sym (ap (λ (r : SegmentMoved). r.answer) q) ∙ e in cc
+      by : (y : Came SegmentAt) → segment_moved y ≡ Err n → y ≡ stopped n
+      by (came b next) q = never_accepted q
+      by (stopped k) q = cc
 
-module _ (x : Reading) (back : State) (symbols counts : List ℕ) (st : State) where
+module _ (x : OrRefused (Plan × State)) (symbols counts : List ℕ) (st : State) where
   -- by other steps that are the same
-  pub same_steps : (p q : Steps Plan) → p ≡ q → x ≡ reading_by back (decode symbols counts st p) → x ≡ reading_by back (decode symbols counts st q)
-  same_steps p q e h = h ∙ ap (λ (r : Steps Plan). reading_by back (decode symbols counts st r)) e
+  pub same_steps : (p q : Steps Plan) → p ≡ q → x ≡ reading_by (decode symbols counts st p) → x ≡ reading_by (decode symbols counts st q)
+  same_steps p q e h = h ∙ ap (λ (r : Steps Plan). reading_by (decode symbols counts st r)) e
 
-  pub refused_steps : (n : ℕ) (q : Steps Plan) → refuses n ≡ q → x ≡ refused_reading n back → x ≡ reading_by back (decode symbols counts st q)
+  pub refused_steps : (n : Refusal) (q : Steps Plan) → refuses n ≡ q → x ≡ Err n → x ≡ reading_by (decode symbols counts st q)
   unfolding decode
   refused_steps n q e h = same_steps (refuses n) q e h
 
   -- one after the other
   module _ {A : Type 0} (m : Steps A) (f : A → Steps Plan) where
-    pub steps_go_on : (a : A) (next : State) → decode symbols counts st m ≡ came a next → x ≡ reading_by back (decode symbols counts next (f a)) → x ≡ reading_by back (decode symbols counts st (and_then m f))
-    steps_go_on a next e h = h ∙ ap (reading_by back) (sym (then_goes symbols counts m f st a next e))
+    pub steps_go_on : (a : A) (next : State) → decode symbols counts st m ≡ came a next → x ≡ reading_by (decode symbols counts next (f a)) → x ≡ reading_by (decode symbols counts st (and_then m f))
+    steps_go_on a next e h = h ∙ ap reading_by (sym (then_goes symbols counts m f st a next e))
 
-    pub steps_stop : (n : ℕ) → decode symbols counts st m ≡ stopped n → x ≡ refused_reading n back → x ≡ reading_by back (decode symbols counts st (and_then m f))
-    steps_stop n e h = h ∙ ap (reading_by back) (sym (then_stops symbols counts m f st n e))
+    pub steps_stop : (n : Refusal) → decode symbols counts st m ≡ stopped n → x ≡ Err n → x ≡ reading_by (decode symbols counts st (and_then m f))
+    steps_stop n e h = h ∙ ap reading_by (sym (then_stops symbols counts m f st n e))
+
+-- the end of a record, and the state behind it
+module _ (frame : List ℕ) (p : Plan) (at : ℕ) (y : OrRefused Plan) (is : y ≡ ended_at frame p at) (symbols counts : List ℕ) (st : State) where
+  pub record_ends : (q : Plan) → y ≡ Ok q → Ok (q, st) ≡ reading_by (decode symbols counts st (nothing_left_over frame p at))
+  unfolding decode nothing_left_over
+  record_ends q e = by_test (ltb at (length frame)) (λ t. never_refused (sym (simp t at is) ∙ e)) (λ t. let w : ◌≡◌ {A = OrRefused Plan} (Ok p) (Ok q) = sym (simp t at is) ∙ e in let same : p ≡ q = cc in rw (t, same) refl)
+
+  pub ending_refused : (n : Refusal) → y ≡ Err n → Err n ≡ reading_by (decode symbols counts st (nothing_left_over frame p at))
+  unfolding decode nothing_left_over
+  ending_refused n e = by_test (ltb at (length frame)) (λ t. let w : ◌≡◌ {A = OrRefused Plan} (Err Misframed) (Err n) = sym (simp t at is) ∙ e in let same : Misframed ≡ n = cc in rw (t, same) refl) (λ t. never_accepted (sym (simp t at is) ∙ e))

@@ -6,7 +6,9 @@ use Prim.Native.Nat.{ℕ, ◌≤◌}
 use native.Mathlib.Omega.{arith}
 use borrow.Author.Tests.{ltb-true, ltb-false, eqb-true, eqb-false}
 use lib.Dec.{ltb, eqb}
-use Rattle.refusal.specs.Numbers.{fine}
+use Rattle.std.specs.Prelude.{Ok, Err}
+use Rattle.refusal.specs.Answers.{OrRefused}
+use Rattle.refusal.proofs.AnswerLaws.{past_ok, past_checked, ok_pair}
 use Rattle.frame.specs.declared.field.Cursor.{Cursor}
 use Rattle.frame.proofs.HexLaws.{by_test}
 use Rattle.unit.specs.Unit.{class_i, class_hm, class_u}
@@ -16,7 +18,7 @@ use Rattle.state.specs.declared.State.{State}
 use Rattle.taking.specs.Steps.{came, decode}
 use Rattle.taking.proofs.Decoding.{decode_follows, then_came}
 use Rattle.pairing.specs.Table60.{mapping_pos}
-use Rattle.pairing.specs.Pairing.{pair_steps, pair_of}
+use Rattle.pairing.specs.Pairing.{pair_steps}
 use Rattle.pairing.proofs.Laws.{pair_came}
 use Rattle.edits.specs.Pieces.{pieces_of}
 use Rattle.splices.specs.Located.{positions_from, first_mapping, pieces_in}
@@ -25,18 +27,14 @@ use Rattle.block.specs.Aligned.{aligned_at}
 use Rattle.block.specs.Head.{head_at}
 use Rattle.block.specs.declared.head.BlockHead.{BlockHead}
 use Rattle.block.specs.declared.aligned.AlignedBlock.{AlignedBlock}
-use Rattle.block.specs.declared.aligned.AlignedRead.{AlignedRead}
-use Rattle.block.specs.declared.aligned.AlignedRead.TheVariants as aligned
 use Rattle.block.specs.declared.unaligned.UnalignedBlock.{UnalignedBlock}
 use Rattle.block.proofs.ReadyLaws.{block_head}
 use Rattle.block.proofs.HeadLaws.{HeadSpliced, head_positions}
-use Rattle.segment.specs.Segment.{unless_refused, block_pieces, placement, placed_segment, placed, after_block, placed_at, plain_at, edits_in, lengths_of}
+use Rattle.segment.specs.Segment.{block_pieces, placement, placed, placed_at, plain_at, edits_in, lengths_of}
 use Rattle.segment.specs.Listed.{mapped_in}
 use Rattle.segment.specs.declared.Placed.{Placed}
 use Rattle.segment.specs.declared.Segment.{Segment}
 use Rattle.segment.specs.declared.Segment.TheVariants.{Aligned, Unaligned, Absent}
-use Rattle.segment.specs.declared.SegmentRead.{SegmentRead}
-use Rattle.segment.specs.declared.SegmentRead.TheVariants as segment
 use Rattle.plan.specs.Plan.{SegmentAt, segment_steps, aligned_steps, first_segment}
 use Rattle.plan.specs.Said.{Second, alone, behind, Blocks, PlanTaken, Table62Of}
 use Rattle.plan.specs.declared.read.Plan.{Plan}
@@ -46,37 +44,32 @@ use Rattle.plan.proofs.Steps.{first_placed, second_placed, second_plain}
 -- ---- a segment that was accepted has its head's pieces, at the position that was given
 
 module _ (u : Unit) (reference symbols frame : List ℕ) (position : ℕ) (q : Placed) (next : Cursor) where
-  unrefused : (number : ℕ) (x : SegmentRead) → unless_refused number x ≡ segment.Whole (Aligned q) next → x ≡ segment.Whole (Aligned q) next
-  unrefused number x e = by_test (eqb number fine) (λ t. simp t at e) (λ t. absurd (let w = simp t at e in let z : ◌≡◌ {A = ℕ} 0 1 = cc in omega arith))
-
-  placed_is : (a : AlignedBlock) → placed u reference symbols frame position a ≡ segment.Whole (Aligned q) next → q ≡ placement u symbols frame position a
+  placed_is : (a : AlignedBlock) → placed u reference symbols frame position a ≡ Ok (Aligned q, next) → q ≡ placement u symbols frame position a
   unfolding placed
   placed_is a e =
-      let w : ◌≡◌ {A = SegmentRead} (segment.Whole (placed_segment u symbols frame position a) a.next) (segment.Whole (Aligned q) next) = unrefused (pieces_refusal u reference 0 (block_pieces u symbols frame position a)) _ e in cc
+      let f = past_checked (pieces_refusal u reference 0 (block_pieces u symbols frame position a)) _ (Aligned q, next) e in
+      let w = ok_pair f.1 in cc
 
-  placed_head : (h : BlockHead) → placed_at u reference symbols frame position h ≡ segment.Whole (Aligned q) next → (q.position ≡ position) × (q.splices ≡ h.splices)
+  placed_head : (h : BlockHead) → placed_at u reference symbols frame position h ≡ Ok (Aligned q, next) → (q.position ≡ position) × (q.splices ≡ h.splices)
   unfolding placed_at
-  placed_head h e = by (aligned_at u.class u.alphabet frame h) refl e
-    where
-      by : (x : AlignedRead) → aligned_at u.class u.alphabet frame h ≡ x → after_block u reference symbols frame position x ≡ segment.Whole (Aligned q) next → (q.position ≡ position) × (q.splices ≡ h.splices)
-      by (aligned.Refused n) f z = absurd (let y : ◌≡◌ {A = ℕ} 0 1 = cc in omega arith)
-      by (aligned.Whole a) f z =
-          let i = placed_is a z in
-          (ap (λ (x : Placed). x.position) i, ap (λ (x : Placed). x.splices) i ∙ (block_head u.class u.alphabet frame h a f).splices)
+  placed_head h e =
+      let b = past_ok (aligned_at u.class u.alphabet frame h) _ (Aligned q, next) e in
+      let i = placed_is b.value b.rest in
+      (ap (λ (x : Placed). x.position) i, ap (λ (x : Placed). x.splices) i ∙ (block_head u.class u.alphabet frame h b.value b.accepted).splices)
 
 -- ---- what its steps came to
 
 module _ (u : Unit) (reference symbols counts frame : List ℕ) where
-  read_came : (x : SegmentRead) (st : State) (p : Segment) (next : Cursor) (after : State) → decode symbols counts st (segment_steps x) ≡ came record { segment = p; next = next } after
-      → (x ≡ segment.Whole p next) × (after ≡ st)
+  read_came : (x : OrRefused (Segment × Cursor)) (st : State) (p : Segment) (next : Cursor) (after : State) → decode symbols counts st (segment_steps x) ≡ came record { segment = p; next = next } after
+      → (x ≡ Ok (p, next)) × (after ≡ st)
   unfolding decode
-  read_came (segment.Whole s c) st p next after e =
+  read_came (Ok (s, c)) st p next after e =
       let i : ◌≡◌ {A = SegmentAt} (record { segment = s; next = c }) (record { segment = p; next = next }) = cc in
       let a : s ≡ p = ap (λ (y : SegmentAt). y.segment) i in
       let b : c ≡ next = ap (λ (y : SegmentAt). y.next) i in
       let m : st ≡ after = cc in
       (rw (a, b) refl, sym m)
-  read_came (segment.Refused n) st p next after e = absurd (let z : ◌≡◌ {A = ℕ} 0 1 = cc in omega arith)
+  read_came (Err n) st p next after e = absurd (let z : ◌≡◌ {A = ℕ} 0 1 = cc in omega arith)
 
   head_table62 : (q : Placed) (position : ℕ) (h : BlockHead) (st middle after : State) → q.position ≡ position → q.splices ≡ h.splices → after ≡ middle → Shaped st
       → HeadSpliced symbols counts frame position st h middle → Table62Of u symbols counts frame st q after
@@ -138,7 +131,7 @@ module _ (u : Unit) (reference symbols counts frame : List ℕ) where
           (ap (decode symbols counts b.middle) (second_plain u reference symbols frame p.pos b.next.at p.link (ltb-false _ _ t)) ∙ f)).1)
 
 -- the state behind the pair symbols has as many indexes
-pub link_shaped : (u : Unit) (reference symbols counts : List ℕ) (state : State) (line : List ℕ) (p : Plan) (moved : State) → PlanTaken u reference symbols counts state line p moved → Shaped state → Shaped (pair_of u symbols counts state).state
+pub link_shaped : (u : Unit) (reference symbols counts : List ℕ) (state : State) (line : List ℕ) (p : Plan) (moved : State) → (taken : PlanTaken u reference symbols counts state line p moved) → Shaped state → Shaped taken.paired
 link_shaped u reference symbols counts state line p moved taken shape =
-    let w = pair_came u symbols counts state p.link taken.linked in
-    rw w.state_is ((decode_follows symbols counts (pair_steps u) state w.decoded w.next w.is).long ∙ shape)
+    let w = pair_came u symbols counts state p.link taken.paired taken.linked in
+    (decode_follows symbols counts (pair_steps u) state w.decoded taken.paired w.is).long ∙ shape

@@ -1,2 +1,2 @@
 pub mod Ready
-pub mod Settled
+pub mod Ended

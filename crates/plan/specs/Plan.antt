@@ -1,12 +1,11 @@
 -- What a record line says (document 01, Lines: 03 record, and Order): 1; kind; the pair symbols; pos in U; the blocks; bytes left over.
 -- Assumes nothing.
-use Rattle.std.specs.Prelude.{ℕ, cond, List, ltb, eqb, length}
-use Rattle.refusal.specs.Numbers.{fine, misframed, position_out}
+use Rattle.std.specs.Prelude.{ℕ, cond, List, ltb, eqb, length, Ok, Err}
+use Rattle.refusal.specs.Answers.{OrRefused}
+use Rattle.refusal.specs.declared.Refusal.TheVariants.{Misframed, PositionOut}
 use Rattle.frame.specs.Hex.{unhex}
-use Rattle.frame.specs.Line.{line_of, line_number}
-use Rattle.frame.specs.declared.line.Line.TheVariants.{Malformed}
-use Rattle.frame.specs.Field.{field_number, with_field}
-use Rattle.frame.specs.declared.field.Field.TheVariants as field
+use Rattle.frame.specs.Line.{line_of}
+use Rattle.frame.specs.Field.{with_field}
 use Rattle.unit.specs.Kinds.{kind_record}
 use Rattle.frame.specs.Steps.{unless, after_line}
 use Rattle.unit.specs.Unit.{class_hm, class_u, most_segments}
@@ -18,26 +17,11 @@ use Rattle.pairing.specs.Table60.{mapping_pos}
 use Rattle.pairing.specs.Pairing.{link_of, pair_steps}
 use Rattle.pairing.specs.declared.Link.{Link}
 use Rattle.block.specs.Head.{head_at}
-use Rattle.segment.specs.Segment.{segment_number, placed_at, plain_at}
-use Rattle.segment.specs.declared.SegmentRead.{SegmentRead}
-use Rattle.segment.specs.declared.SegmentRead.TheVariants as segment
+use Rattle.segment.specs.Segment.{placed_at, plain_at}
 use Rattle.frame.specs.declared.field.Cursor.{Cursor}
 use Rattle.segment.specs.declared.Segment.{Segment}
 use Rattle.segment.specs.declared.Segment.TheVariants.{Absent}
 use Rattle.plan.specs.declared.read.Plan.{Plan}
-use Rattle.plan.specs.declared.read.Planned.{Planned}
-use Rattle.plan.specs.declared.read.Reading.{Reading}
-use Rattle.plan.specs.declared.segments.SegmentMoved.{SegmentMoved}
-use Rattle.plan.specs.declared.read.Planned.TheVariants.{Whole, Refused}
-
--- document 01's number of an answer
-abbrev pub planned_number : Planned → ℕ
-planned_number (Whole p) = fine
-planned_number (Refused n) = n
-
--- the frame ends before a field is complete
-abbrev pub short_field : ℕ
-short_field = field_number field.Short
 
 -- what is listed of a record: its pair link, its position and its segments
 abbrev pub plan : Link → (pos : ℕ) (first second : Segment) → Plan
@@ -45,7 +29,7 @@ plan link pos first second = record { link = link; pos = pos; first = first; sec
 
 -- then left-over bytes (2)
 unfoldable pub nothing_left_over : (frame : List ℕ) → Plan → (at : ℕ) → Steps Plan
-nothing_left_over frame p at = cond (ltb at (length frame)) (refuses misframed) (sets p)
+nothing_left_over frame p at = cond (ltb at (length frame)) (refuses Misframed) (sets p)
 
 -- a segment, and the place behind its block
 pub record SegmentAt : Type 0 where
@@ -53,9 +37,9 @@ pub record SegmentAt : Type 0 where
   pub next : Cursor
 
 -- what takes no symbol, as steps
-abbrev pub segment_steps : SegmentRead → Steps SegmentAt
-segment_steps (segment.Refused n) = refuses (segment_number (segment.Refused n))
-segment_steps (segment.Whole p next) = sets record { segment = p; next = next }
+abbrev pub segment_steps : OrRefused (Segment × Cursor) → Steps SegmentAt
+segment_steps (Err n) = refuses n
+segment_steps (Ok (p, next)) = sets record { segment = p; next = next }
 
 -- an aligned segment at a position: the head of its block, which takes the block's symbols, then what stands behind it
 unfoldable pub aligned_steps : Unit → (reference symbols frame : List ℕ) (position at : ℕ) → Steps SegmentAt
@@ -76,10 +60,10 @@ unfoldable pub second_segment : Unit → (reference symbols frame : List ℕ) �
 second_segment u reference symbols frame link pos at =
     cond (ltb u.class class_hm) (aligned_steps u reference symbols frame (mapping_pos pos link.mate) at) (plain_steps u frame at)
 
--- what reading a segment hands back: the segment and the state behind its symbols, or the refusal and the state as it was given
-abbrev pub segment_moved : (back : State) → Came SegmentAt → SegmentMoved
-segment_moved back (came s next) = record { answer = segment.Whole s.segment s.next; state = next }
-segment_moved back (stopped n) = record { answer = segment.Refused n; state = back }
+-- what reading a segment hands back: the segment, the place behind its block and the state behind its symbols, or the refusal
+abbrev pub segment_moved : Came SegmentAt → OrRefused (Segment × Cursor × State)
+segment_moved (came s next) = Ok (s.segment, s.next, next)
+segment_moved (stopped n) = Err n
 
 -- the second block, where the record has two segments; then nothing may be left over
 unfoldable pub from_second : Unit → (reference symbols frame : List ℕ) → Link → (pos : ℕ) → Segment → (at : ℕ) → Steps Plan
@@ -95,35 +79,30 @@ from_first u reference symbols frame link pos at =
 -- pos u32 (0 in class U)
 unfoldable pub from_pos : Unit → (reference symbols frame : List ℕ) → Link → (at : ℕ) → Steps Plan
 from_pos u reference symbols frame link at =
-    with_field (refuses short_field) 4 frame at (λ pos behind.
+    with_field refuses 4 frame at (λ pos behind.
     cond (eqb u.class class_u)
-    (unless (eqb pos 0) (refuses position_out) (from_first u reference symbols frame link pos behind))
+    (unless (eqb pos 0) (refuses PositionOut) (from_first u reference symbols frame link pos behind))
     (from_first u reference symbols frame link pos behind))
 
 -- THE STEPS OF A RECORD: kind (2), then the pair symbols as they are taken, then pos and the blocks
 unfoldable pub record_steps : Unit → (reference symbols frame : List ℕ) → Steps Plan
 record_steps u reference symbols frame =
-    with_field (refuses short_field) 1 frame 0 (λ kind behind.
-    unless (eqb kind kind_record) (refuses misframed)
+    with_field refuses 1 frame 0 (λ kind behind.
+    unless (eqb kind kind_record) (refuses Misframed)
     (and_then (pair_steps u) (λ d. from_pos u reference symbols frame (link_of d) behind)))
 
--- "a refusal returns its number with the state it was given"
-abbrev pub refused_reading : (n : ℕ) (back : State) → Reading
-refused_reading n back = record { planned = Refused n; state = back }
-
--- what was read, and the state: behind the record's symbols, or as it was given
-abbrev pub reading_by : (back : State) → Came Plan → Reading
-reading_by back (came p next) = record { planned = Whole p; state = next }
-reading_by back (stopped n) = refused_reading n back
+-- what was read, and the state behind the record's symbols; or the refusal
+abbrev pub reading_by : Came Plan → OrRefused (Plan × State)
+reading_by (came p next) = Ok (p, next)
+reading_by (stopped n) = Err n
 
 -- what the frame says, from a state on
-unfoldable pub from_kind : Unit → (reference symbols counts : List ℕ) → State → (frame : List ℕ) → Reading
-from_kind u reference symbols counts state frame = reading_by state (decode symbols counts state (record_steps u reference symbols frame))
+unfoldable pub from_kind : Unit → (reference symbols counts : List ℕ) → State → (frame : List ℕ) → OrRefused (Plan × State)
+from_kind u reference symbols counts state frame = reading_by (decode symbols counts state (record_steps u reference symbols frame))
 
 -- a line is lent with its 0A
-unfoldable pub plan_of : Unit → (reference symbols counts : List ℕ) → State → (line : List ℕ) → Reading
-plan_of u reference symbols counts state line =
-    after_line (refused_reading (line_number Malformed) state) (line_of line) (from_kind u reference symbols counts state (unhex line))
+unfoldable pub plan_of : Unit → (reference symbols counts : List ℕ) → State → (line : List ℕ) → OrRefused (Plan × State)
+plan_of u reference symbols counts state line = after_line Err (line_of line) (from_kind u reference symbols counts state (unhex line))
 
 -- the symbols that the next record of a unit takes, in order
 abbrev pub record_takes : Unit → (reference symbols : List ℕ) → State → (line : List ℕ) → List Took

@@ -1,11 +1,10 @@
 -- What an accepted record line says: its link and position, a block for each of its segments, and which symbols they take.
 -- Assumes nothing.
-use Rattle.std.specs.Prelude.{ℕ, ◌<◌, ◌≤◌, ◌≡◌, ◌⊎◌, List, ◌++◌}
+use Rattle.std.specs.Prelude.{ℕ, ◌<◌, ◌≤◌, ◌≡◌, ◌⊎◌, List, ◌++◌, Ok}
 use Rattle.limits.specs.Limits.{record_fields}
 use Rattle.frame.specs.Hex.{unhex}
 use Rattle.frame.specs.Line.{line_of}
 use Rattle.frame.specs.Field.{big_at}
-use Rattle.frame.specs.declared.line.Line.TheVariants.{Frame}
 use Rattle.frame.specs.declared.field.Cursor.{Cursor}
 use Rattle.unit.specs.Kinds.{kind_record}
 use Rattle.unit.specs.Unit.{class_i, class_u, most_segments}
@@ -14,7 +13,6 @@ use Rattle.state.specs.declared.State.{State}
 use Rattle.taking.specs.Steps.{came, decode}
 use Rattle.taking.specs.Reading.{taken_in}
 use Rattle.pairing.specs.Pairing.{pair_of, pair_takes}
-use Rattle.pairing.specs.declared.LinkRead.TheVariants as pair
 use Rattle.edits.specs.Pieces.{SignedPosition, straight, pieces_of}
 use Rattle.splices.specs.Table62.{spliced_seg_mapping_pos}
 use Rattle.segment.specs.Segment.{edits_in, lengths_of, pieces_at}
@@ -41,14 +39,15 @@ pub record Blocks (u : Unit) (reference symbols counts frame : List ℕ) (at : �
 -- a well-formed line of kind 03; its link is what the pair symbols say; pos and the blocks stand behind the kind, and are read from the state behind the pair symbols
 pub record PlanTaken (u : Unit) (reference symbols counts : List ℕ) (state : State) (line : List ℕ) (p : Plan) (moved : State) : Type 0 where
   pub size : ℕ
-  pub well_formed : line_of line ≡ Frame size
+  pub well_formed : line_of line ≡ Ok size
   pub kind : big_at 1 (unhex line) 0 ≡ kind_record
-  pub linked : (pair_of u symbols counts state).answer ≡ pair.Linked p.link
+  pub paired : State
+  pub linked : pair_of u symbols counts state ≡ Ok (p.link, paired)
   pub pos_is : p.pos ≡ big_at 4 (unhex line) 1
-  pub blocks : Blocks u reference symbols counts (unhex line) record_fields (pair_of u symbols counts state).state p moved
+  pub blocks : Blocks u reference symbols counts (unhex line) record_fields paired p moved
   pub steps : decode symbols counts state (record_steps u reference symbols (unhex line)) ≡ came p moved
   -- its symbols are first the pair's, then those of its blocks in order
-  pub takes : record_takes u reference symbols state line ≡ pair_takes u symbols state ++ taken_in symbols (pair_of u symbols counts state).state (from_pos u reference symbols (unhex line) p.link 1)
+  pub takes : record_takes u reference symbols state line ≡ pair_takes u symbols state ++ taken_in symbols paired (from_pos u reference symbols (unhex line) p.link 1)
   -- in P, N, M and U no block takes a symbol: no field asks for one
   pub takes_pair : (u.class < class_i) ⊎ (u.class ≡ class_u) → record_takes u reference symbols state line ≡ pair_takes u symbols state
 

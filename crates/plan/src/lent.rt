@@ -2,6 +2,7 @@
 ghost use Rattle.std.specs.Prelude.{◌≡◌, length};
 ghost use Rattle.plan.specs.Lent.{counts_out, state_refusal, lent_refusal};
 
+use refusal::Refusal;
 use state::State;
 use unit::{Pairs, Unit};
 
@@ -9,54 +10,44 @@ use unit::{Pairs, Unit};
 fn counts_out(counts: &[u32]) -> bool
     ensures { result ≡ counts_out counts.now }
 {
-    let mut i: usize = 0;
-    while i < counts.len() {
-        if Pairs::SYMBOLS < counts[i] {
-            return true;
-        }
-        i += 1;
-    }
-    false
+    counts.iter().any(|&count| Pairs::SYMBOLS < count)
 }
 
-// What is refused before the line is looked at, or 0.
-pub fn refusal_of(
+// What is refused before the line is looked at.
+pub fn check(
     unit: Unit,
     reference: &[u8],
     symbols: &[u32],
     counts: &[u32],
     state: State,
-) -> u32
+) -> Result<(), Refusal>
     ensures { result ≡ lent_refusal unit (length reference.now) (length symbols.now) counts.now state }
 {
-    let outside = unit.refusal();
-    if outside != refusal::FINE {
-        return outside;
-    }
+    unit.check()?;
     if Unit::REFERENCE < reference.len() {
-        return refusal::MISFRAMED;
+        return Err(Refusal::Misframed);
     }
     if symbols.len() != Pairs::TABLE {
-        return refusal::COUNT_OUT;
+        return Err(Refusal::CountOut);
     }
     if counts.len() != Pairs::SUBSEQUENCES {
-        return refusal::COUNT_OUT;
+        return Err(Refusal::CountOut);
     }
     if counts_out(counts) {
-        return refusal::COUNT_OUT;
+        return Err(Refusal::CountOut);
     }
-    state_refusal(unit, counts, state)
+    check_state(unit, counts, state)
 }
 
-// Refusal 14 where the state is not one of this unit and these counts, else 0.
-fn state_refusal(unit: Unit, counts: &[u32], state: State) -> u32
+// Refusal 14 where the state is not one of this unit and these counts.
+fn check_state(unit: Unit, counts: &[u32], state: State) -> Result<(), Refusal>
     ensures { result ≡ state_refusal unit counts.now state }
 {
     if unit.records <= state.number {
-        return refusal::MISSING;
+        return Err(Refusal::Missing);
     }
     if !state.within(counts) {
-        return refusal::MISSING;
+        return Err(Refusal::Missing);
     }
-    refusal::FINE
+    Ok(())
 }

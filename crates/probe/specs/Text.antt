@@ -1,23 +1,20 @@
 -- What the probes of the text layer answer.
 -- Assumes nothing.
-use Rattle.std.specs.Prelude.{ℕ, zero, suc, ◌+◌, ◌*◌, ◌/◌, ◌%◌, ◌^◌, cond, List, [], ◌++◌, length, nat_lt}
+use Rattle.std.specs.Prelude.{ℕ, zero, suc, ◌+◌, ◌*◌, ◌/◌, ◌%◌, ◌^◌, cond, List, [], ◌++◌, length, nat_lt, Ok, Err}
 use Rattle.frame.specs.Hex.{be}
-use Rattle.frame.specs.Field.{field_at}
+use Rattle.refusal.specs.Answers.{OrRefused}
+use Rattle.frame.specs.Field.{Field, field_at}
 use Rattle.writing.specs.Lay.{lay}
-use Rattle.frame.specs.declared.line.Line.{Line}
-use Rattle.frame.specs.declared.line.Line.TheVariants.{Frame, Malformed}
-use Rattle.frame.specs.declared.field.Field.{Field}
-use Rattle.frame.specs.declared.field.Field.TheVariants.{Value, Short}
 
 -- a frame's bytes, or 0 for a malformed line
-abbrev pub frame_bytes : Line → ℕ
-frame_bytes (Frame n) = n
-frame_bytes Malformed = 0
+abbrev pub frame_bytes : OrRefused ℕ → ℕ
+frame_bytes (Ok n) = n
+frame_bytes (Err refusal) = 0
 
 -- a field's value, or 0 for one that is not complete
 abbrev pub value_of : Field → ℕ
-value_of (Value v c) = v
-value_of Short = 0
+value_of (Ok (v, c)) = v
+value_of (Err refusal) = 0
 
 -- the sum of the first k u16 fields, modulo 2^32
 unfoldable pub sum_to : ℕ → List ℕ → ℕ

@@ -4,26 +4,24 @@ ghost use Rattle.frame.specs.Hex.{unhex};
 ghost use Rattle.frame.specs.Line.{line_of};
 ghost use Rattle.probe.specs.Text.{frame_bytes, value_of, sum_to, count_into};
 
-use frame::field::{Cursor, Field};
-use frame::line::Line;
+use frame::field::{Cursor, Digits, read_u16};
+use frame::line::line_of;
+use refusal::Refusal;
 
 // A frame's bytes, or 0 for a malformed line.
 #[unsafe(no_mangle)]
 pub extern "C" fn probe_line(line: &[u8]) -> usize
     ensures { result ≡ frame_bytes (line_of line.now) }
 {
-    match frame::line::line_of(line) {
-        Line::Frame(n) => n,
-        Line::Malformed => 0,
-    }
+    line_of(line).unwrap_or(0)
 }
 
-fn value(f: Field) -> u32
+fn value(f: Result<(u32, Cursor), Refusal>) -> u32
     ensures { result ≡ value_of f }
 {
     match f {
-        Field::Value(v, _) => v,
-        Field::Short => 0,
+        Ok((v, _)) => v,
+        Err(_) => 0,
     }
 }
 
@@ -33,12 +31,10 @@ pub extern "C" fn probe_sum(line: &[u8], fields: u32) -> u32
     ensures { result ≡ sum_to fields (unhex line.now) }
 {
     let mut sum: u32 = 0;
-    let mut i: u32 = 0;
-    while i < fields {
+    for i in 0..fields {
         let at = i as usize * 2;
-        let v = value(frame::field::read_u16(line, Cursor { at }));
-        sum = std::num::wrapping_add_u32(sum, v);
-        i += 1;
+        let v = value(read_u16(Digits(line), Cursor { at }));
+        sum = sum.wrapping_add(v);
     }
     sum
 }
@@ -52,9 +48,7 @@ pub extern "C" fn probe_lay(out: &mut [u8], fields: u32)
         return;
     }
     let mut at = 0;
-    let mut left = fields;
-    while 0 < left {
+    for left in (1..=fields).rev() {
         at = writing::lay::put_u32(out, at, left);
-        left -= 1;
     }
 }

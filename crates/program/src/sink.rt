@@ -1,111 +1,88 @@
 // Lines gathered in a lent buffer for standard output, and written in large pieces.
-ghost use Rattle.std.specs.Prelude.{◌≡◌, length};
-ghost use Rattle.program.specs.Sink.{empty, stopped_sink, longer_by, with_line, Roomy};
+ghost use Rattle.std.specs.Prelude.{◌≡◌, length, MatchResult};
+ghost use Rattle.program.specs.Sink.{longer_by, with_line, Roomy};
 
-use crate::system::fail;
+use crate::system::{Failed, fail};
 use listing::close;
+use refusal::Refusal;
 use state::listed::ListedLine;
-use writing::lay::Wrote;
 
-// The first `used` bytes of the buffer are to be written.
-#[derive(Clone, Copy)]
-pub struct Sink {
+// The first `used` bytes of the buffer are to be written: none of them any more, once the program stops.
+#[derive(Drop)]
+pub struct Sink<'r, 'o> {
+    pub rt: &'r HostRuntime,
+    pub out: &'o mut [u8],
     pub used: usize,
-    // A write failed: nothing more is written.
-    pub failed: bool,
 }
 
-// Whether all of it was written to standard output; where not, that was said on standard error.
-pub fn write(rt: &HostRuntime, bytes: &[u8]) -> bool {
-    match rt.write_all(bytes) {
-        Ok(()) => true,
-        Err(cause) => {
-            fail(rt, b"standard output", cause);
-            false
-        }
-    }
+// All of it is written to standard output.
+pub fn write(rt: &HostRuntime, bytes: &[u8]) -> Result<(), Failed> {
+    rt.write_all(bytes)
+        .map_err(|cause| fail(rt, b"standard output", cause))
 }
 
-impl Sink {
-    pub fn new() -> Sink
-        ensures { result ≡ empty }
+impl<'r, 'o> Sink<'r, 'o> {
+    pub fn new(rt: &'r HostRuntime, out: &'o mut [u8]) -> Sink<'r, 'o>
+        ensures { result.used ≡ 0 }
     {
-        Sink {
-            used: 0,
-            failed: false,
-        }
-    }
-
-    pub fn stopped() -> Sink
-        ensures { result ≡ stopped_sink }
-    {
-        Sink {
-            used: 0,
-            failed: true,
-        }
+        Sink { rt, out, used: 0 }
     }
 
     // Everything that is gathered is written.
-    pub fn flushed(self, rt: &HostRuntime, out: &[u8]) -> Sink
-        ensures { result.used ≡ 0 }
+    pub fn flush(&mut self) -> Result<(), Failed>
+        ensures { self.new.used ≡ 0 }
     {
-        if self.failed {
-            return Sink::stopped();
-        }
         let used = self.used;
-        if out.len() < used {
-            return Sink::stopped();
+        self.used = 0;
+        if self.out.len() < used {
+            return Err(Failed);
         }
-        if write(rt, &out[0..used]) {
-            return Sink::new();
-        }
-        Sink::stopped()
+        write(self.rt, &self.out[..used])
     }
 
     // There is room for a longest line behind what is gathered.
-    pub fn roomy(self, rt: &HostRuntime, out: &[u8]) -> Sink
-        ensures { Roomy (length out.now) result }
+    pub fn make_room(&mut self) -> Result<(), Failed>
+        ensures { Roomy (length self.new.out.now) self.new.used }
     {
-        if out.len() < self.used {
-            return Sink::stopped();
+        if self.used <= self.out.len() && ListedLine::DIGITS < self.out.len() - self.used {
+            return Ok(());
         }
-        if ListedLine::DIGITS < out.len() - self.used {
-            return self;
-        }
-        self.flushed(rt, out)
+        self.flush()
     }
 
     // n bytes more are gathered.
-    pub fn longer(self, n: usize, out: &[u8]) -> Sink
-        ensures { result ≡ longer_by n (length out.now) self }
+    #[tactic(auto, unfolding(crate::specs::Sink::longer_by))]
+    pub fn grow(&mut self, n: usize) -> Result<(), Failed>
+        ensures { MatchResult result (λ _. longer_by n (length self.old.out.now) self.old.used ≡ Some self.new.used)
+            (λ _. (longer_by n (length self.old.out.now) self.old.used ≡ None) × (self.new.used ≡ 0)) }
     {
-        if out.len() < self.used {
-            return Sink::stopped();
+        let used = self.used;
+        self.used = 0;
+        if self.out.len() < used || self.out.len() - used < n {
+            return Err(Failed);
         }
-        if out.len() - self.used < n {
-            return Sink::stopped();
-        }
-        Sink {
-            used: self.used + n,
-            failed: self.failed,
-        }
+        self.used = used + n;
+        Ok(())
     }
 
     // A line more is gathered, which was written behind the others.
-    pub fn with(self, wrote: Wrote, out: &[u8]) -> Sink
-        ensures { result ≡ with_line wrote (length out.now) self }
+    pub fn add(&mut self, wrote: Result<usize, Refusal>) -> Result<(), Failed>
+        ensures { MatchResult result (λ _. with_line wrote (length self.old.out.now) self.old.used ≡ Some self.new.used)
+            (λ _. (with_line wrote (length self.old.out.now) self.old.used ≡ None) × (self.new.used ≡ 0)) }
     {
         match wrote {
-            Wrote::Line(n) => self.longer(n, out),
-            Wrote::NoRoom => Sink::stopped(),
+            Ok(n) => self.grow(n),
+            Err(_) => {
+                self.used = 0;
+                Err(Failed)
+            }
         }
     }
-}
 
-// An 05 line more.
-pub fn with_refused(rt: &HostRuntime, k: Sink, out: &mut [u8], number: u32, refusal: u32) -> Sink {
-    let roomy = k.roomy(rt, out);
-    let used = roomy.used;
-    let wrote = close::write_refused(&mut out[used..], number, refusal);
-    roomy.with(wrote, out)
+    // An 05 line more.
+    pub fn add_refused(&mut self, number: u32, refusal: u32) -> Result<(), Failed> {
+        self.make_room()?;
+        let wrote = close::write_refused(&mut self.out[self.used..], number, refusal);
+        self.add(wrote)
+    }
 }

@@ -8,10 +8,9 @@ use borrow.Author.Tests.{lt-leb, leb-false}
 use lib.Dec.{leb}
 use lib.ListN.{length}
 use denote.Ref.{Bor}
-use Rattle.frame.specs.Field.{field_at}
+use Rattle.frame.specs.Field.{Field, field_at}
 use Rattle.frame.specs.declared.field.Cursor.{Cursor}
-use Rattle.frame.specs.declared.field.Field.{Field}
-use Rattle.frame.specs.declared.field.Field.TheVariants.{Value}
+use Rattle.std.specs.Prelude.{Ok}
 use Rattle.frame.proofs.HexLaws.{by_test}
 use Rattle.reader.specs.Code.Reading.{behind, at_front, further}
 use Rattle.reader.specs.Head.{record_head}
@@ -30,7 +29,7 @@ pub head_kind : {h : Head} (s : List ℕ) → h ≡ record_head s → h.kind ≡
 unfolding record_head
 head_kind s e = ap (λ (x : Head). x.kind) e
 
-pub head_pos : {h : Head} (s : List ℕ) (v : ℕ) (c : Cursor) → h ≡ record_head s → h.kind ≡ Value v c → h.pos ≡ field_at 4 s c.at
+pub head_pos : {h : Head} (s : List ℕ) (v : ℕ) (c : Cursor) → h ≡ record_head s → h.kind ≡ Ok (v, c) → h.pos ≡ field_at 4 s c.at
 unfolding record_head
 head_pos s v c e k = ap (λ (x : Head). x.pos) e ∙ sym (pos_behind s) ∙ ap (λ (f : Field). field_at 4 s (behind f 0)) (sym (head_kind s e) ∙ k)
 

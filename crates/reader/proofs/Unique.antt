@@ -4,8 +4,7 @@ use mathlib.Core.Path.{◌≡◌, ap, ◌∙◌}
 use mathlib.Core.List.{List}
 use Prim.Native.Nat.{ℕ}
 use denote.Ref.{Bor}
-use Rattle.frame.specs.Field.{field_at}
-use Rattle.frame.specs.declared.field.Field.{Field}
+use Rattle.frame.specs.Field.{Field, field_at}
 use Rattle.frame.proofs.Unique.{once}
 use Rattle.reader.specs.Code.Reading.{width_bytes, at_front, further}
 use Rattle.reader.specs.Head.{record_head}

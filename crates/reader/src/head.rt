@@ -3,13 +3,14 @@ ghost use Rattle.std.specs.Prelude.{◌≡◌};
 ghost use Rattle.reader.specs.Head.{record_head};
 
 use crate::{Reader, Width};
-use frame::field::Field;
+use frame::field::Cursor;
+use refusal::Refusal;
 
 // Kind and pos, each complete or short.
 #[derive(Clone, Copy)]
 pub struct Head {
-    pub kind: Field,
-    pub pos: Field,
+    pub kind: Result<(u32, Cursor), Refusal>,
+    pub pos: Result<(u32, Cursor), Refusal>,
 }
 
 pub fn read(frame: &[u8]) -> Head

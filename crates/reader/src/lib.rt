@@ -8,7 +8,8 @@ ghost use Rattle.std.specs.Prelude.{◌≡◌};
 ghost use Rattle.frame.specs.Field.{field_at};
 ghost use Rattle.reader.specs.Code.Reading.{width_bytes, behind, at_front, further};
 
-use frame::field::{Cursor, Field};
+use frame::field::Cursor;
+use refusal::Refusal;
 
 // The frame, and how many of its bytes are read.
 #[derive(Clone, Copy)]
@@ -23,23 +24,23 @@ pub enum Width {
 }
 
 // The field at a place of the frame.
-fn field_at(frame: &[u8], at: usize, w: Width) -> Field
+fn field_at(frame: &[u8], at: usize, w: Width) -> Result<(u32, Cursor), Refusal>
     ensures { result ≡ field_at (width_bytes w) frame.now at }
 {
     match w {
-        Width::U8 => frame::bytes::read_u8(frame, Cursor { at }),
-        Width::U16 => frame::bytes::read_u16(frame, Cursor { at }),
-        Width::U32 => frame::bytes::read_u32(frame, Cursor { at }),
+        Width::U8 => frame::field::read_u8(frame, Cursor { at }),
+        Width::U16 => frame::field::read_u16(frame, Cursor { at }),
+        Width::U32 => frame::field::read_u32(frame, Cursor { at }),
     }
 }
 
 // The place behind a field; where the frame ended before it, the place as it was.
-fn place_behind(f: Field, at: usize) -> usize
+fn place_behind(f: Result<(u32, Cursor), Refusal>, at: usize) -> usize
     ensures { result ≡ behind f at }
 {
     match f {
-        Field::Value(_, c) => c.at,
-        Field::Short => at,
+        Ok((_, c)) => c.at,
+        Err(_) => at,
     }
 }
 
@@ -52,7 +53,7 @@ impl<'a> Reader<'a> {
     }
 
     // The next field, and the place moves behind it; where the frame ends before it is complete, the place stays.
-    pub fn field(&mut self, w: Width) -> Field
+    pub fn field(&mut self, w: Width) -> Result<(u32, Cursor), Refusal>
         ensures { (result ≡ field_at (width_bytes w) self.old.0.now self.old.1) × (self.new ≡ further self.old result) }
     {
         let at = self.1;

@@ -5,18 +5,19 @@ use mathlib.Core.Logic.{⊎_elim}
 use mathlib.Core.List.{List, ◌++◌}
 use Prim.Native.Nat.{ℕ, ◌+◌, ◌-◌, ◌*◌, ◌^◌, ◌<◌, ◌≤◌}
 use native.Mathlib.Omega.{arith}
-use borrow.Author.Tests.{lt-ltb, eqb-true}
-use lib.Dec.{eqb}
+use borrow.Author.Tests.{lt-ltb}
 use lib.ListN.{length, take, get_or, length-append}
 use lib.Seq.{length-take-le}
-use Rattle.refusal.specs.Numbers.{fine, Early}
-use Rattle.refusal.proofs.RefusalLaws.{by_number}
+use Rattle.std.specs.Prelude.{⊤, Ok, Err}
+use Rattle.refusal.specs.Answers.{OrRefused}
+use Rattle.refusal.specs.declared.Refusal.{Refusal}
+use Rattle.refusal.specs.declared.Refusal.TheVariants.{Malformed}
+use Rattle.refusal.proofs.RefusalLaws.{EarlyRefusal, EarlyAnswer}
+use Rattle.refusal.proofs.AnswerLaws.{never_refused, ok_pair}
 use Rattle.limits.specs.Limits.{record_fields}
 use Rattle.frame.specs.Hex.{Bytes, unhex}
 use Rattle.frame.specs.Line.{line_digits, line_end, line_of}
 use Rattle.frame.specs.Field.{big_at}
-use Rattle.frame.specs.declared.line.Line.TheVariants.{Frame, Malformed}
-use Rattle.frame.proofs.HexLaws.{by_test}
 use Rattle.frame.proofs.LineLaws.{line_too_long, line_unended}
 use Rattle.state.specs.Listed.{most_listed, least_listed, listed_head, Step, refused, accepted}
 use Rattle.unit.specs.declared.Unit.{Unit as UnitOf}
@@ -31,12 +32,10 @@ use Rattle.plan.specs.Lent.{lent_refusal}
 use Rattle.plan.specs.Plan.{record_steps, plan_of}
 use Rattle.plan.specs.Said.{PlanTaken, AlignedIn}
 use Rattle.plan.specs.declared.read.Plan.{Plan}
-use Rattle.plan.specs.declared.read.Planned.{Planned}
-use Rattle.plan.specs.declared.read.Planned.TheVariants.{Whole, Refused}
 use Rattle.plan.proofs.PlanLaws.{plan_taken, plan_ready, first_aligned, second_aligned}
-use Rattle.plan.proofs.RefusalLaws.{EarlyPlan, lent_early, plan_early}
+use Rattle.plan.proofs.RefusalLaws.{lent_early, plan_early}
 use Rattle.plan.proofs.StateLaws.{LentTaken, lent_taken}
-use Rattle.record.specs.Record.{link_bytes, listed_bytes, step_by, step_of, with_room, record_of}
+use Rattle.record.specs.Record.{link_bytes, listed_bytes, step_by, after_lent, step_of, with_room, record_of}
 use Rattle.state.specs.State.{after, Shaped}
 use Rattle.record.proofs.BytesLaws.{tail_bytes, listed_head_lem, bytes_listed, length_listed, length_link}
 use Rattle.state.proofs.ListedLaws.{length_head}
@@ -48,22 +47,26 @@ least_listed_lem number sequence pos next link h = simp (length-append, length_l
 -- ---- a refusal
 
 abbrev EarlyStep : Step → Type 0
-EarlyStep (refused n) = Early n
+EarlyStep (refused n) = EarlyRefusal n
 EarlyStep (accepted frame next) = Unit
 
 module _ (u : UnitOf) (reference symbols counts : List ℕ) (state : State) (line : List ℕ) where
   step_early : EarlyStep (step_of u reference symbols counts state line)
   unfolding step_of
   step_early =
-      by_number EarlyStep (lent_refusal u (length reference) (length symbols) counts state) _ _ (lent_early u (length reference) (length symbols) counts state)
-      (by (plan_of u reference symbols counts state line).planned (plan_early u reference symbols counts state line)) (λ h. h)
+      lent (lent_refusal u (length reference) (length symbols) counts state) (lent_early u (length reference) (length symbols) counts state) _
+      (by (plan_of u reference symbols counts state line) (plan_early u reference symbols counts state line))
     where
-      by : (x : Planned) → EarlyPlan x → EarlyStep (step_by u reference symbols (unhex line) state (plan_of u reference symbols counts state line).state x)
-      by (Whole p) h = tt
-      by (Refused n) h = h
+      by : (x : OrRefused (Plan × State)) → EarlyAnswer x → EarlyStep (step_by u reference symbols (unhex line) state x)
+      by (Ok (p, moved)) h = tt
+      by (Err n) h = h
 
-  -- every refusal is a number of the table but 17
-  pub step_refusal : (n : ℕ) → step_of u reference symbols counts state line ≡ refused n → Early n
+      lent : (x : OrRefused ⊤) → EarlyAnswer x → (go_on : Step) → EarlyStep go_on → EarlyStep (after_lent x go_on)
+      lent (Ok t) h go_on k = k
+      lent (Err n) h go_on k = h
+
+  -- every refusal is one of the table but 17
+  pub step_refusal : (n : Refusal) → step_of u reference symbols counts state line ≡ refused n → EarlyRefusal n
   step_refusal n e = rw e at step_early
 
 -- ---- an accepted line
@@ -73,7 +76,7 @@ pub record StepTaken (u : UnitOf) (reference symbols counts : List ℕ) (state :
   pub lent : LentTaken u (length reference) (length symbols) counts state
   pub plan : Plan
   pub moved : State
-  pub said : (plan_of u reference symbols counts state line).planned ≡ Whole plan
+  pub said : plan_of u reference symbols counts state line ≡ Ok (plan, moved)
   pub taken : PlanTaken u reference symbols counts state line plan moved
   pub frame_is : frame ≡ listed_bytes u reference symbols (unhex line) state.number (after state moved) plan
   pub next_is : next ≡ after state moved
@@ -81,7 +84,7 @@ pub record StepTaken (u : UnitOf) (reference symbols counts : List ℕ) (state :
 -- the facts that a listing asks of it
 pub record Listed (u : UnitOf) (counts : List ℕ) (state : State) (line frame : List ℕ) (next : State) : Type 0 where
   pub size : ℕ
-  pub well_formed : line_of line ≡ Frame size
+  pub well_formed : line_of line ≡ Ok size
   pub tail : List ℕ
   pub head : frame ≡ listed_head state.number next ++ tail
   pub bytes : Bytes frame
@@ -95,25 +98,26 @@ pub record Listed (u : UnitOf) (counts : List ℕ) (state : State) (line frame :
 module _ (u : UnitOf) (reference symbols counts : List ℕ) (state : State) (line frame : List ℕ) (next : State) where
   pub step_taken : step_of u reference symbols counts state line ≡ accepted frame next → StepTaken u reference symbols counts state line frame next
   unfolding step_of
-  step_taken q =
-      by_test (eqb (lent_refusal u (length reference) (length symbols) counts state) fine)
-      (λ t. by (lent_taken u (length reference) (length symbols) counts state (eqb-true _ _ t)) (plan_of u reference symbols counts state line).planned refl (simp t at q))
-      (λ t. absurd (let e = simp t at q in let z : ◌≡◌ {A = ℕ} 0 1 = cc in omega arith))
+  step_taken q = lent (lent_refusal u (length reference) (length symbols) counts state) refl q
     where
-      by : LentTaken u (length reference) (length symbols) counts state → (x : Planned) → (plan_of u reference symbols counts state line).planned ≡ x
-          → step_by u reference symbols (unhex line) state (plan_of u reference symbols counts state line).state x ≡ accepted frame next → StepTaken u reference symbols counts state line frame next
-      by l (Refused n) e z = absurd (let y : ◌≡◌ {A = ℕ} 0 1 = cc in omega arith)
-      by l (Whole p) e z =
-          let moved = (plan_of u reference symbols counts state line).state in
+      by : LentTaken u (length reference) (length symbols) counts state → (x : OrRefused (Plan × State)) → plan_of u reference symbols counts state line ≡ x
+          → step_by u reference symbols (unhex line) state x ≡ accepted frame next → StepTaken u reference symbols counts state line frame next
+      by l (Err n) e z = absurd (let y : ◌≡◌ {A = ℕ} 0 1 = cc in omega arith)
+      by l (Ok (p, moved)) e z =
           record {
             lent = l;
             plan = p;
             moved = moved;
             said = e;
-            taken = plan_taken u reference symbols counts state line p moved (ap (λ (x : Planned). record { planned = x; state = moved }) e);
+            taken = plan_taken u reference symbols counts state line p moved e;
             frame_is = cc;
             next_is = cc;
           }
+
+      lent : (x : OrRefused ⊤) → lent_refusal u (length reference) (length symbols) counts state ≡ x
+          → after_lent x (step_by u reference symbols (unhex line) state (plan_of u reference symbols counts state line)) ≡ accepted frame next → StepTaken u reference symbols counts state line frame next
+      lent (Err n) e z = absurd (let y : ◌≡◌ {A = ℕ} 0 1 = cc in omega arith)
+      lent (Ok t) e z = by (lent_taken u (length reference) (length symbols) counts state e) (plan_of u reference symbols counts state line) refl z
 
   listed : (p : Plan) (moved : State) → LentTaken u (length reference) (length symbols) counts state → PlanTaken u reference symbols counts state line p moved
       → frame ≡ listed_bytes u reference symbols (unhex line) state.number (after state moved) p → next ≡ after state moved → u.end < 2 ^ 32 → Shaped state → Listed u counts state line frame next
@@ -149,12 +153,12 @@ module _ (u : UnitOf) (reference symbols counts : List ℕ) (state : State) (lin
 -- ---- what the line said is listed, and its aligned segments are accepted ones
 
 module _ (u : UnitOf) (reference symbols counts : List ℕ) (state : State) (line frame : List ℕ) (next : State) (call : step_of u reference symbols counts state line ≡ accepted frame next)
-    (p : Plan) (said : (plan_of u reference symbols counts state line).planned ≡ Whole p) where
+    (p : Plan) (moved : State) (said : plan_of u reference symbols counts state line ≡ Ok (p, moved)) where
   taken : StepTaken u reference symbols counts state line frame next
   taken = step_taken u reference symbols counts state line frame next call
 
   plan_is : taken.plan ≡ p
-  plan_is = let e : Whole taken.plan ≡ Whole p = sym taken.said ∙ said in cc
+  plan_is = (ok_pair (sym taken.said ∙ said)).0
 
   pub said_listed : frame ≡ listed_bytes u reference symbols (unhex line) state.number next p
   said_listed =
@@ -162,8 +166,8 @@ module _ (u : UnitOf) (reference symbols counts : List ℕ) (state : State) (lin
       ∙ ap (λ (x : State). listed_bytes u reference symbols (unhex line) state.number x taken.plan) (sym taken.next_is)
       ∙ ap (listed_bytes u reference symbols (unhex line) state.number next) plan_is
 
-  pub said_taken : PlanTaken u reference symbols counts state line p (plan_of u reference symbols counts state line).state
-  said_taken = plan_taken u reference symbols counts state line p _ (ap (λ (x : Planned). record { planned = x; state = (plan_of u reference symbols counts state line).state }) said)
+  pub said_taken : PlanTaken u reference symbols counts state line p moved
+  said_taken = plan_taken u reference symbols counts state line p moved said
 
   module _ (q : Placed) where
     pub said_first : p.first ≡ Aligned q → SegmentAccepted u reference symbols (unhex line) q × (q.position ≡ big_at 4 (unhex line) 1)
@@ -197,7 +201,7 @@ record_roomy u reference symbols counts state line room fits shaped h = by (step
 
 module _ (u : UnitOf) (reference symbols counts : List ℕ) (state : State) where
   -- of a line that is not well formed nothing more is looked at
-  pub malformed_same : (line other : List ℕ) → line_of line ≡ Malformed → line_of other ≡ Malformed → step_of u reference symbols counts state line ≡ step_of u reference symbols counts state other
+  pub malformed_same : (line other : List ℕ) → line_of line ≡ Err Malformed → line_of other ≡ Err Malformed → step_of u reference symbols counts state line ≡ step_of u reference symbols counts state other
   unfolding step_of plan_of
   malformed_same line other e f = simp (e, f)
 
@@ -211,5 +215,4 @@ module _ (u : UnitOf) (reference symbols counts : List ℕ) (state : State) wher
   pub no_end : (line frame : List ℕ) (next : State) → (get_or line (length line - 1) 0 ≡ line_end → ⊥) → step_of u reference symbols counts state line ≡ accepted frame next → ⊥
   no_end line frame next h q =
       let t = (step_taken u reference symbols counts state line frame next q).taken in
-      let e : Malformed ≡ Frame t.size = sym (line_unended line_digits line h) ∙ t.well_formed in
-      let z : ◌≡◌ {A = ℕ} 0 1 = cc in omega arith
+      never_refused (sym (line_unended line_digits line h) ∙ t.well_formed)

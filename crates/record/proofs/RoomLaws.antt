@@ -7,7 +7,7 @@ use native.Mathlib.Nat.{zero-add}
 use borrow.Author.Tests.{lt-ltb, le-ltb}
 use lib.Dec.{ltb}
 use lib.ListN.{length, set}
-use Rattle.refusal.specs.Numbers.{no_room}
+use Rattle.refusal.specs.declared.Refusal.TheVariants.{NoRoom}
 use Rattle.frame.specs.Line.{line_end}
 use Rattle.frame.proofs.HexLaws.{by_test}
 use Rattle.writing.specs.Lay.{Laid}
@@ -23,7 +23,7 @@ unfolding line_into
 output_is_line s bs next = by_test (ltb (2 * length bs) (length s)) (λ t. simp t) (λ t. simp t)
 
 pub record_no_room : (state next : State) (s bs : List ℕ) → length s ≤ 2 * length bs
-    → (refused_call no_room state ≡ recorded state (with_room (length s) (accepted bs next))) × (s ≡ output s (with_room (length s) (accepted bs next)))
+    → (refused_call NoRoom state ≡ recorded state (with_room (length s) (accepted bs next))) × (s ≡ output s (with_room (length s) (accepted bs next)))
 record_no_room state next s bs h =
     let t = le-ltb (2 * length bs) (length s) h in
     (simp t, (no_room_lem s bs h).1 ∙ sym (output_is_line s bs next))

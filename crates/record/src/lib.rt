@@ -1,18 +1,18 @@
 // The record call: from a lent record line to a lent 04 line. Nothing is written before all is known.
 #![tactic(auto)]
 
-ghost use Rattle.std.specs.Prelude.{◌≡◌, List, ℕ, ◌<◌, length};
-ghost use Rattle.refusal.specs.Numbers.{fine};
+ghost use Rattle.std.specs.Prelude.{◌≡◌, List, ℕ, ◌<◌, length, Ok};
+ghost use Rattle.refusal.specs.Answers.{fine};
 ghost use Rattle.unit.specs.Unit.{most_records};
 ghost use Rattle.plan.specs.Lent.{lent_refusal};
 ghost use Rattle.plan.specs.Code.Ready.{ReadyPlan};
-ghost use Rattle.plan.specs.declared.read.Planned.TheVariants.{Whole};
 ghost use Rattle.record.specs.Record.{record_of, refused_call, recorded, output, with_room, step_by};
 ghost use Rattle.record.specs.Code.Frame.{FrameOf, read_step};
 
 use frame::line::Line;
-use plan::read::{Plan, Planned};
+use plan::read::Plan;
 use plan::{lent, read};
+use refusal::Refusal;
 use state::State;
 use state::listed::ListedLine;
 use unit::Unit;
@@ -20,26 +20,19 @@ use unit::Unit;
 mod sized;
 mod write;
 
-// How many bytes were written, the 0A among them; or the refusal's number.
-#[derive(Clone, Copy)]
-pub enum Answer {
-    Listed(usize),
-    Refused(u32),
-}
-
-// The answer, and the state after it: the next record's, or as it was given.
+// How many bytes were written, the 0A among them, or the refusal; and the state after it: the next record's, or as it was given.
 #[derive(Clone, Copy)]
 pub struct Recorded {
-    pub answer: Answer,
+    pub answer: Result<usize, Refusal>,
     pub state: State,
 }
 
 // A refusal, with the state that was given.
-fn refused(n: u32, state: State) -> Recorded
-    ensures { result ≡ refused_call n state }
+fn refused(refusal: Refusal, state: State) -> Recorded
+    ensures { result ≡ refused_call refusal state }
 {
     Recorded {
-        answer: Answer::Refused(n),
+        answer: Err(refusal),
         state,
     }
 }
@@ -57,21 +50,19 @@ fn settle(
 ) -> Recorded
     requires ready_plan { ReadyPlan unit reference.now symbols.now frame.now p }
     requires number_lt_most_records { state.number < most_records }
-    ensures value { result ≡ recorded state (with_room (length out.old) (step_by unit reference.now symbols.now frame.now state moved (Whole p))) }
-    ensures out_after { out.new ≡ output out.old (with_room (length out.old) (step_by unit reference.now symbols.now frame.now state moved (Whole p))) }
+    ensures value { result ≡ recorded state (with_room (length out.old) (step_by unit reference.now symbols.now frame.now state (Ok (p, moved)))) }
+    ensures out_after { out.new ≡ output out.old (with_room (length out.old) (step_by unit reference.now symbols.now frame.now state (Ok (p, moved)))) }
 {
-    let first = p.first;
-    let second = p.second;
-    let bytes = ListedLine::LEAST + first.bytes() + second.bytes();
+    let bytes = ListedLine::LEAST + p.first.bytes() + p.second.bytes();
     if out.len() <= 2 * bytes {
-        return refused(refusal::NO_ROOM, state);
+        return refused(Refusal::NoRoom, state);
     }
     let mut next = moved;
     next.number = state.number + 1;
     let end = write::write(out, unit, reference, symbols, frame, state.number, next, p);
     out[end] = Line::END;
     Recorded {
-        answer: Answer::Listed(end + 1),
+        answer: Ok(end + 1),
         state: next,
     }
 }
@@ -91,12 +82,9 @@ fn of_frame(
     ensures value { result ≡ recorded state (with_room (length out.old) (read_step unit reference.now symbols.now counts.now state frame.now)) }
     ensures out_after { out.new ≡ output out.old (with_room (length out.old) (read_step unit reference.now symbols.now counts.now state frame.now)) }
 {
-    let reading = read::read(unit, reference, symbols, counts, state, frame);
-    let planned = reading.planned;
-    let moved = reading.state;
-    match planned {
-        Planned::Refused(k) => refused(k, state),
-        Planned::Whole(p) => settle(unit, reference, symbols, state, moved, frame, out, p),
+    match read::read(unit, reference, symbols, counts, state, frame) {
+        Err(refusal) => refused(refusal, state),
+        Ok((p, moved)) => settle(unit, reference, symbols, state, moved, frame, out, p),
     }
 }
 
@@ -113,14 +101,11 @@ pub fn record(
     ensures value { result ≡ recorded state (record_of unit reference.now symbols.now counts.now state line.now (length out.old)) }
     ensures out_after { out.new ≡ output out.old (record_of unit reference.now symbols.now counts.now state line.now (length out.old)) }
 {
-    let n = lent::refusal_of(unit, reference, symbols, counts, state);
-    if n != refusal::FINE {
-        return refused(n, state);
+    if let Err(refusal) = lent::check(unit, reference, symbols, counts, state) {
+        return refused(refusal, state);
     }
     match frame::line::line_of(line) {
-        Line::Malformed => refused(refusal::MALFORMED, state),
-        Line::Frame(size) => sized::of_line(
-            unit, reference, symbols, counts, state, line, out, size,
-        ),
+        Err(malformed) => refused(malformed, state),
+        Ok(size) => sized::of_line(unit, reference, symbols, counts, state, line, out, size),
     }
 }

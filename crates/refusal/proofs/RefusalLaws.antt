@@ -1,41 +1,60 @@
--- The laws of the refusal numbers: a number that is not `fine` is one of the table.
+-- The laws of refusals: the number of each is one of the table.
 -- Assumes nothing.
-use mathlib.Core.Path.{◌≡◌, refl}
-use mathlib.Core.Bool.{Bool, true, false, cond}
-use Prim.Native.Nat.{ℕ, zero, suc}
 use native.Mathlib.Omega.{arith}
-use borrow.Author.Tests.{ne_eqb, eqb-false, ltb-true, leb-true}
-use lib.Dec.{T, leb, ltb, eqb}
-use Rattle.refusal.specs.Numbers.{fine, no_room, last_refusal, Refusal, Early, FineOrEarly}
+use borrow.Author.Tests.{eqb-false}
+use Rattle.std.specs.Prelude.{◌≡◌, ⊤, ℕ, Ok, Err, Bool, true, false, not, eqb, T, refl}
+use Rattle.refusal.specs.declared.Refusal.{Refusal}
+use Rattle.refusal.specs.declared.Refusal.TheVariants.{Malformed, Misframed, UnitOut, CountOut, UsedUp, CodeOut, ValueOut, LengthOut, ClipsOut, SymbolOut, FieldOut, OffsetOut, PositionOut, Missing, OtherFirst, OtherLast, NoRoom}
+use Rattle.refusal.specs.Numbers.{number_of, no_room, InTable, Early}
+use Rattle.refusal.specs.Answers.{OrRefused, after_ok, checked}
 
 -- a number but 17 is a number
-pub early_refusal : (n : ℕ) → Early n → Refusal n
+pub early_refusal : (n : ℕ) → Early n → InTable n
 early_refusal n h = h.0
 
--- what is tested against `fine` holds where both arms hold: where the test fails, the number is one of the table
-pub by_number : {X : Type 0} (P : X → Type 0) (n : ℕ) (go stop : X) → FineOrEarly n → P go → (Early n → P stop) → P (cond (eqb n fine) go stop)
-by_number P zero go stop h k f = k
-by_number P (suc n) go stop h k f = rw (ne_eqb (suc n) fine (λ e. omega arith)) (f ((omega arith, h.0), h.1))
+pub in_table : (refusal : Refusal) → InTable (number_of refusal)
+in_table Malformed = (omega arith, omega arith)
+in_table Misframed = (omega arith, omega arith)
+in_table UnitOut = (omega arith, omega arith)
+in_table CountOut = (omega arith, omega arith)
+in_table UsedUp = (omega arith, omega arith)
+in_table CodeOut = (omega arith, omega arith)
+in_table ValueOut = (omega arith, omega arith)
+in_table LengthOut = (omega arith, omega arith)
+in_table ClipsOut = (omega arith, omega arith)
+in_table SymbolOut = (omega arith, omega arith)
+in_table FieldOut = (omega arith, omega arith)
+in_table OffsetOut = (omega arith, omega arith)
+in_table PositionOut = (omega arith, omega arith)
+in_table Missing = (omega arith, omega arith)
+in_table OtherFirst = (omega arith, omega arith)
+in_table OtherLast = (omega arith, omega arith)
+in_table NoRoom = (omega arith, omega arith)
 
--- ---- numerals, by a test that is computed: `fine_or_early tt`, `early tt`
+-- ---- every refusal but 17
 
-abbrev pub may_be_early : ℕ → Bool
-may_be_early n = cond (eqb n no_room) false (leb n last_refusal)
+-- the number is one of the table but 17
+abbrev pub EarlyRefusal : Refusal → Type 0
+EarlyRefusal refusal = Early (number_of refusal)
 
-abbrev pub is_early : ℕ → Bool
-is_early n = cond (ltb fine n) (may_be_early n) false
+-- of an answer: what it accepts, or such a refusal
+abbrev pub EarlyAnswer : {A : Type 0} → OrRefused A → Type 0
+EarlyAnswer (Ok a) = ⊤
+EarlyAnswer (Err refusal) = EarlyRefusal refusal
 
-pub fine_or_early : {n : ℕ} → T (may_be_early n) → FineOrEarly n
-fine_or_early {n} h = by (eqb n no_room) refl (leb n last_refusal) refl h
+-- a refusal that is written out, by a test that is computed: `early _ tt`
+pub early : (refusal : Refusal) → T (not (eqb (number_of refusal) no_room)) → EarlyRefusal refusal
+early refusal h = by (eqb (number_of refusal) no_room) refl h
   where
-    by : (t : Bool) → eqb n no_room ≡ t → (u : Bool) → leb n last_refusal ≡ u → T (cond t false u) → FineOrEarly n
-    by false e false f h = elim h [ ]
-    by true e u f h = elim h [ ]
-    by false e true f h = (leb-true n last_refusal f, eqb-false n no_room e)
+    by : (t : Bool) → eqb (number_of refusal) no_room ≡ t → T (not t) → EarlyRefusal refusal
+    by true e h = elim h [ ]
+    by false e h = (in_table refusal, eqb-false (number_of refusal) no_room e)
 
-pub early : {n : ℕ} → T (is_early n) → Early n
-early {n} h = by (ltb fine n) refl h
-  where
-    by : (t : Bool) → ltb fine n ≡ t → T (cond t (may_be_early n) false) → Early n
-    by false e h = elim h [ ]
-    by true e h = let m : FineOrEarly n = fine_or_early h in ((ltb-true fine n e, m.0), m.1)
+-- what follows an answer is refused early where both are
+pub after_early : {A B : Type 0} (x : OrRefused A) (go_on : A → OrRefused B) → EarlyAnswer x → ((a : A) → EarlyAnswer (go_on a)) → EarlyAnswer (after_ok x go_on)
+after_early (Ok a) go_on h k = k a
+after_early (Err refusal) go_on h k = h
+
+pub checked_early : {B : Type 0} (x : OrRefused ⊤) (go_on : OrRefused B) → EarlyAnswer x → EarlyAnswer go_on → EarlyAnswer (checked x go_on)
+checked_early (Ok t) go_on h k = k
+checked_early (Err refusal) go_on h k = h

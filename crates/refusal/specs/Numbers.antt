@@ -1,14 +1,12 @@
 -- Document 01's table of refusal numbers, row by row.
 -- Assumes nothing.
-use Rattle.std.specs.Prelude.{◌≡◌, cond, ℕ, ◌<◌, ◌≤◌, eqb}
+use Rattle.std.specs.Prelude.{◌≡◌, ℕ, ◌<◌, ◌≤◌}
+use Rattle.refusal.specs.declared.Refusal.{Refusal}
+use Rattle.refusal.specs.declared.Refusal.TheVariants.{Malformed, Misframed, UnitOut, CountOut, UsedUp, CodeOut, ValueOut, LengthOut, ClipsOut, SymbolOut, FieldOut, OffsetOut, PositionOut, Missing, OtherFirst, OtherLast, NoRoom}
 
 -- nothing is refused
 abbrev pub fine : ℕ
 fine = 0
-
--- the first of two refusals, where there is one
-abbrev pub first_refusal : (one other : ℕ) → ℕ
-first_refusal one other = cond (eqb one fine) other one
 
 -- other digits, odd count, too long a line, or a last line without 0A
 abbrev pub malformed : ℕ
@@ -82,15 +80,35 @@ no_room = 17
 abbrev pub last_refusal : ℕ
 last_refusal = no_room
 
+-- the table: each refusal by its number
+abbrev pub number_of : Refusal → ℕ
+number_of Malformed = malformed
+number_of Misframed = misframed
+number_of UnitOut = unit_out
+number_of CountOut = count_out
+number_of UsedUp = used_up
+number_of CodeOut = code_out
+number_of ValueOut = value_out
+number_of LengthOut = length_out
+number_of ClipsOut = clips_out
+number_of SymbolOut = symbol_out
+number_of FieldOut = field_out
+number_of OffsetOut = offset_out
+number_of PositionOut = position_out
+number_of Missing = missing
+number_of OtherFirst = other_first
+number_of OtherLast = other_last
+number_of NoRoom = no_room
+
 -- ---- what is said of an answer's number
 
 -- a number of the table
-abbrev pub Refusal : ℕ → Type 0
-Refusal n = (fine < n) × (n ≤ last_refusal)
+abbrev pub InTable : ℕ → Type 0
+InTable n = (fine < n) × (n ≤ last_refusal)
 
 -- any but 17
 abbrev pub Early : ℕ → Type 0
-Early n = Refusal n × (n ≡ no_room → ⊥)
+Early n = InTable n × (n ≡ no_room → ⊥)
 
 -- nothing is refused, or it is by such a number
 abbrev pub FineOrEarly : ℕ → Type 0

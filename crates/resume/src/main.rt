@@ -2,140 +2,89 @@
 // A refused resume is an answer like any other. What goes wrong outside of the lines, such as a file that is not there, is said on standard error.
 #![tactic(auto)]
 
-use found::{Found, copy, find};
+use found::{copy, find};
 use listing::close::NO_RECORD;
-use opening::files::{FrontRead, OpenFiles, open};
-use opening::first::with_first;
-use program::args::{asks_help, count, path};
+use opening::files::{OpenFiles, open};
+use opening::first::add_first;
+use program::args::{count, path, say_usage};
 use program::buffer::{path_buffer, piece_buffer};
-use program::sink::{Sink, with_refused};
-use program::system::{fail, open_read};
-use rest::{finish, rest};
+use program::sink::Sink;
+use program::system::{Failed, fail, open_read};
+use rest::rest;
 use resuming::place::Go;
 use unit::{Pairs, Unit};
 
-fn usage(out: &impl Print) {
-    let _ = out.write_all(b"usage: resume [REFERENCE UNIT FOUND]\n");
-    let _ = out.write_all(b"Writes a listing that was stopped to standard output, whole.\n");
-    let _ = out.write_all(b"Without paths it reads reference.hex, unit.hex and found.hex.\n");
-}
+const USAGE: &[u8] = b"usage: resume [REFERENCE UNIT FOUND]
+Writes a listing that was stopped to standard output, whole.
+Without paths it reads reference.hex, unit.hex and found.hex.
+";
 
-// The first line is missing where nothing is kept.
-fn first_sink(rt: &HostRuntime, go: Go, front: FrontRead, out: &mut [u8]) -> Sink {
-    if let Go::Afresh = go {
-        return with_first(rt, Sink::new(), out, front);
-    }
-    Sink::new()
-}
-
-// The missing lines, behind the kept ones.
-fn add_missing(
-    rt: &HostRuntime,
-    found: Found,
-    opened: OpenFiles,
-    reference: &[u8],
-    symbols: &[u32],
-    unit_path: &[u8],
-    buf: &mut [u8],
-    out: &mut [u8],
-) {
-    let go = found.go;
-    if let Go::Over = go {
-        return;
-    }
-    let state = found.state;
-    let front = opened.front;
-    let sink = first_sink(rt, go, front, out);
-    let run = rest(rt, opened, reference, symbols, state, sink, buf, out);
-    finish(rt, run, unit_path, out);
-}
-
-// Nothing is written before it is known where to go on.
+// Nothing is written before it is known where to go on: then the kept lines, and the missing ones behind them.
 fn go_on(
     rt: &HostRuntime,
-    opened: OpenFiles,
-    reference: &[u8],
-    symbols: &[u32],
-    unit_path: &[u8],
+    files: &mut OpenFiles,
     found_path: &[u8],
-    buf: &mut [u8],
     out: &mut [u8],
-) {
-    let file = match open_read(rt, found_path) {
-        Ok(file) => file,
-        Err(cause) => {
-            fail(rt, found_path, cause);
-            return;
-        }
-    };
-    let front = opened.front;
-    let counts = opened.counts;
-    let found = find(&file, front, &counts, out);
-    if let Some(cause) = found.failed {
-        fail(rt, found_path, cause);
-        return;
+) -> Result<(), Failed> {
+    let file = open_read(rt, found_path).map_err(|cause| fail(rt, found_path, cause))?;
+    let found = find(&file, files.front, &files.counts, out).map_err(|cause| fail(
+        rt, found_path, cause,
+    ))?;
+    if let Go::Refused(refusal) = found.go {
+        let mut sink = Sink::new(rt, out);
+        sink.add_refused(NO_RECORD, u32::from(refusal))?;
+        return sink.flush();
     }
-    if let Go::Refused(n) = found.go {
-        with_refused(rt, Sink::new(), out, NO_RECORD, n).flushed(rt, out);
-        return;
+    copy(rt, &file, found.kept, found_path, out)?;
+    if let Go::Over = found.go {
+        return Ok(());
     }
-    if !copy(rt, &file, found.kept, found_path, out) {
-        return;
+    let mut sink = Sink::new(rt, out);
+    if let Go::Afresh = found.go {
+        add_first(&mut sink, files.front)?;
     }
-    add_missing(rt, found, opened, reference, symbols, unit_path, buf, out);
+    rest(files, found.go.state(), &mut sink)
 }
 
-fn resume(rt: &HostRuntime, reference_path: &[u8], unit_path: &[u8], found_path: &[u8]) {
+fn resume(
+    rt: &HostRuntime,
+    reference_path: &[u8],
+    unit_path: &[u8],
+    found_path: &[u8],
+) -> Result<(), Failed> {
     let mut buf = piece_buffer();
     let mut out = piece_buffer();
     let mut reference = [0u8; Unit::REFERENCE];
     let mut symbols = [0u32; Pairs::TABLE];
-    let opened = open(
+    let mut files = open(
         rt,
         reference_path,
         unit_path,
         &mut buf,
         &mut reference,
         &mut symbols,
-    );
-    let front = opened.front;
-    if let FrontRead::Unread = front {
-        return;
-    }
-    go_on(
-        rt, opened, &reference, &symbols, unit_path, found_path, &mut buf, &mut out,
-    );
+    )?;
+    go_on(rt, &mut files, found_path, &mut out)
 }
 
-fn resume_named(rt: &HostRuntime) {
-    let mut reference_path = path_buffer();
-    let mut unit_path = path_buffer();
-    let mut found_path = path_buffer();
-    let Some(a) = path(rt, 1, &mut reference_path) else {
-        return;
-    };
-    let Some(b) = path(rt, 2, &mut unit_path) else {
-        return;
-    };
-    let Some(c) = path(rt, 3, &mut found_path) else {
-        return;
-    };
-    resume(rt, &reference_path[..a], &unit_path[..b], &found_path[..c]);
+fn resume_named(rt: &HostRuntime) -> Result<(), Failed> {
+    let mut reference = path_buffer();
+    let mut unit = path_buffer();
+    let mut found = path_buffer();
+    let reference_path = path(rt, 1, &mut reference)?;
+    let unit_path = path(rt, 2, &mut unit)?;
+    let found_path = path(rt, 3, &mut found)?;
+    resume(rt, reference_path, unit_path, found_path)
 }
 
+// What went wrong was said, and the status is that of any listing.
 fn main(rt: HostRuntime) {
-    let words = count(&rt);
-    if words <= 1 {
-        resume(&rt, b"reference.hex", b"unit.hex", b"found.hex");
-        return;
-    }
-    if words == 4 {
-        resume_named(&rt);
-        return;
-    }
-    if asks_help(&rt) {
-        usage(&rt.stdout());
-        return;
-    }
-    usage(&rt.stderr());
+    let _ = match count(&rt) {
+        0 | 1 => resume(&rt, b"reference.hex", b"unit.hex", b"found.hex"),
+        4 => resume_named(&rt),
+        _ => {
+            say_usage(&rt, USAGE);
+            Ok(())
+        }
+    };
 }

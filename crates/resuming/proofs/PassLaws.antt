@@ -1,7 +1,7 @@
 -- The laws of passing over lines: it is to count their 0A, in pieces of any size.
 -- Assumes nothing.
 use Prim.Native.Nat.{ℕ, zero, suc, ◌+◌, ◌-◌, ◌≤◌, ◌<◌}
-use native.Mathlib.Nat.{zero-add, add-zero, add_assoc}
+use native.Mathlib.Nat.{add-zero, add_assoc}
 use native.Mathlib.Numerals.{add-one, one-add}
 use native.Mathlib.Omega.{arith}
 use mathlib.Core.Path.{◌≡◌, refl, sym, ap, ◌∙◌}
@@ -65,9 +65,6 @@ pass_within want (x ∷ xs) =
 
 -- ---- a turn of the loop
 
-shifted_none : (p : Passed) → shifted 0 p ≡ p
-shifted_none p = ap (λ (n : ℕ). record { at = n; left = p.left }) (zero-add p.at)
-
 shifted_more : (i : ℕ) (p : Passed) → shifted i (shifted 1 p) ≡ shifted (i + 1) p
 shifted_more i p = ap (λ (n : ℕ). record { at = n; left = p.left }) (sym (add_assoc i 1 p.at))
 
@@ -84,9 +81,6 @@ pub record PassTurn (a : List ℕ) (p : Passed) (i w : ℕ) : Type 0 where
   pub inside : i ≤ length a
   pub wanted : 0 < w
   pub comes : shifted i (pass_over w (drop i a)) ≡ p
-
-pub turn_start : (a : List ℕ) (w : ℕ) → 0 < w → PassTurn a (pass_over w a) 0 w
-turn_start a w h = record { inside = omega arith; wanted = h; comes = shifted_none (pass_over w a) }
 
 module _ {a : List ℕ} {p : Passed} {i w : ℕ} (t : PassTurn a p i w) where
   -- the piece ends
@@ -123,3 +117,7 @@ module _ {a : List ℕ} {p : Passed} {i w : ℕ} (t : PassTurn a p i w) where
               ∙ ap (shifted i) (sym (rw (drop-cons a i 0 h, add-one i, ne_eqb w 0 (λ q. omega (arith, t.wanted)), ne_eqb (get_or a i 0) line_end e)))
               ∙ t.comes;
         }
+
+-- the piece ends, told by its length
+pub pass_whole : {a : List ℕ} {p : Passed} {i w : ℕ} (t : PassTurn a p i w) → length a ≤ i → record { at = length a; left = w } ≡ p
+pass_whole {a} {p} {i} {w} t h = let e : length a ≡ i = omega (arith, t.inside) in rw e (pass_end t h)

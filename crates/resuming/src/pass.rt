@@ -19,16 +19,16 @@ pub fn pass(piece: &[u8], want: usize) -> Passed
         return Passed { at: 0, left: 0 };
     }
     let mut left = want;
-    let mut i = 0;
-    while i < piece.len() {
-        let b = piece[i];
-        i += 1;
+    for (i, &b) in piece.iter().enumerate() {
         if b == Line::END {
             left -= 1;
             if left == 0 {
-                return Passed { at: i, left };
+                return Passed { at: i + 1, left };
             }
         }
     }
-    Passed { at: i, left }
+    Passed {
+        at: piece.len(),
+        left,
+    }
 }

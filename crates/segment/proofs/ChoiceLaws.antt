@@ -5,11 +5,11 @@ use mathlib.Core.Path.{◌≡◌, refl, sym, ap, ◌∙◌}
 use mathlib.Core.List.{List}
 use native.Mathlib.Omega.{arith}
 use native.Mathlib.Nat.{zero-add}
-use borrow.Author.Tests.{ne_eqb, eqb-true}
-use lib.Dec.{eqb}
 use lib.ListN.{length}
-use Rattle.refusal.specs.Numbers.{fine}
-use Rattle.frame.proofs.HexLaws.{by_test}
+use Rattle.std.specs.Prelude.{Ok, Err, ⊤}
+use Rattle.refusal.specs.Answers.{OrRefused, fine, checked}
+use Rattle.refusal.specs.declared.Refusal.{Refusal}
+use Rattle.refusal.proofs.AnswerLaws.{past_checked, never_accepted}
 use Rattle.unit.specs.declared.Unit.{Unit}
 use Rattle.alphabet.specs.Table35.{size_of}
 use Rattle.state.proofs.HeadLaws.{length_words_at}
@@ -23,13 +23,13 @@ use Rattle.tables.proofs.SplicedLaws.{PositionFits, clipped_length, length_read,
 use Rattle.pieces.specs.Place.{place_refusal}
 use Rattle.pieces.specs.Placed.{pieces_refusal}
 use Rattle.pieces.specs.Code.Checked.{text_behind, pieces_found}
-use Rattle.pieces.specs.declared.check.PiecesFound.{PiecesFound}
 use Rattle.pieces.proofs.WriteLaws.{behind_is_pieces, text_behind_lem}
 use Rattle.block.specs.declared.aligned.AlignedBlock.{AlignedBlock}
-use Rattle.segment.specs.Segment.{unless_refused, block_pieces, text_length, placed}
+use Rattle.frame.specs.declared.field.Cursor.{Cursor}
+use Rattle.segment.specs.declared.Segment.{Segment}
+use Rattle.segment.specs.Segment.{block_pieces, text_length, placed_segment, placed}
 use Rattle.segment.specs.Code.Ready.{Tallied}
 use Rattle.segment.specs.Code.Whole.{under_matches, whole_at}
-use Rattle.segment.specs.declared.SegmentRead.TheVariants.{Refused}
 use Rattle.segment.proofs.OneLaws.{only_piece_lem, only_refusal, only_text}
 use Rattle.segment.proofs.PiecedLaws.{all_sound, all_span}
 use Rattle.segment.proofs.PlacedLaws.{all_placed, placed_each, begins, placed_begins, pieces_few}
@@ -39,7 +39,7 @@ module _ (u : Unit) (reference symbols frame : List ℕ) (position : ℕ) (a : A
 
   pub one_placed : a.splices.count < 2
       → placed u reference symbols frame position a
-      ≡ unless_refused (place_refusal u.start u.end position a.taken) (unless_refused (under_matches u reference frame position a.block) (whole_at a position a.text))
+      ≡ checked (place_refusal u.start u.end position a.taken) (checked (under_matches u reference frame position a.block) (Ok (whole_at a position a.text)))
   unfolding placed
   one_placed h =
       let one : a.splices.count ≡ 1 = omega (arith, t.pieced.least) in
@@ -48,40 +48,43 @@ module _ (u : Unit) (reference symbols frame : List ℕ) (position : ℕ) (a : A
       let number = only_refusal u reference frame a.block position in
       let taken = sym t.taken in
       rw (only, number, text, taken)
-      (by_test (eqb (place_refusal u.start u.end position a.taken) fine)
-      (λ p. by_test (eqb (under_matches u reference frame position a.block) fine) (λ q. simp (p, q)) (λ q. simp (p, q)))
-      (λ p. simp p))
+      (nested (place_refusal u.start u.end position a.taken) (under_matches u reference frame position a.block) _)
+    where
+      nested : {B : Type 0} (x y : OrRefused ⊤) (go_on : OrRefused B) → checked (checked (checked x y) fine) go_on ≡ checked x (checked y go_on)
+      nested (Ok t) (Ok s) go_on = refl
+      nested (Ok t) (Err n) go_on = refl
+      nested (Err n) y go_on = refl
 
   -- ---- several
 
-  module _ (found : PiecesFound) (q : found ≡ pieces_found u reference 0 0 (block_pieces u symbols frame position a)) where
-    number_is : found.refusal ≡ pieces_refusal u reference 0 (block_pieces u symbols frame position a)
-    unfolding pieces_found
-    number_is =
-        by_test (eqb (pieces_refusal u reference 0 (block_pieces u symbols frame position a)) fine)
-        (λ s. ap (λ (x : PiecesFound). x.refusal) q ∙ simp s (sym (eqb-true _ _ s)))
-        (λ s. ap (λ (x : PiecesFound). x.refusal) q ∙ simp s)
+  module _ (answer : OrRefused ℕ) (q : answer ≡ pieces_found u reference 0 0 (block_pieces u symbols frame position a)) where
+    pub several_refused : (n : Refusal) → answer ≡ Err n → Err n ≡ placed u reference symbols frame position a
+    unfolding placed pieces_found
+    several_refused n h = by (pieces_refusal u reference 0 (block_pieces u symbols frame position a)) refl (sym q ∙ h)
+      where
+        by : (x : OrRefused ⊤) → pieces_refusal u reference 0 (block_pieces u symbols frame position a) ≡ x → ◌≡◌ {A = OrRefused ℕ} (checked x (Ok (0 + text_behind u.alphabet 0 (block_pieces u symbols frame position a)))) (Err n) → ◌≡◌ {A = OrRefused (Segment × Cursor)} (Err n) (checked x (Ok (placed_segment u symbols frame position a, a.next)))
+        by (Ok t) e z = never_accepted z
+        by (Err k) e z = cc
 
-    pub several_refused : (found.refusal ≡ fine → ⊥) → Refused found.refusal ≡ placed u reference symbols frame position a
-    unfolding placed
-    several_refused h = let n = number_is in rw (← n, ne_eqb _ _ h) refl
-
-    module _ (h : found.refusal ≡ fine) where
-      fine_is : pieces_refusal u reference 0 (block_pieces u symbols frame position a) ≡ fine
-      fine_is = sym number_is ∙ h
-
-      text_is : found.text ≡ text_behind u.alphabet 0 (block_pieces u symbols frame position a)
+    module _ (found : ℕ) (h : answer ≡ Ok found) where
+      both_is : (pieces_refusal u reference 0 (block_pieces u symbols frame position a) ≡ fine) × (◌≡◌ {A = OrRefused ℕ} (Ok (0 + text_behind u.alphabet 0 (block_pieces u symbols frame position a))) (Ok found))
       unfolding pieces_found
-      text_is = ap (λ (x : PiecesFound). x.text) q ∙ rw (fine_is, zero-add) refl
+      both_is = past_checked (pieces_refusal u reference 0 (block_pieces u symbols frame position a)) _ found (sym q ∙ h)
 
-      text_whole : found.text + clips_length a.block.clips ≡ text_length u symbols frame position a
+      fine_is : pieces_refusal u reference 0 (block_pieces u symbols frame position a) ≡ fine
+      fine_is = both_is.0
+
+      text_is : found ≡ text_behind u.alphabet 0 (block_pieces u symbols frame position a)
+      text_is = let e = both_is.1 in let w : 0 + text_behind u.alphabet 0 (block_pieces u symbols frame position a) ≡ found = cc in sym w ∙ zero-add _
+
+      text_whole : found + clips_length a.block.clips ≡ text_length u symbols frame position a
       text_whole =
           let l = length_read u.alphabet a.block.rcomp a.block.clips (block_pieces u symbols frame position a) in
           let b = text_behind_lem u.alphabet a.block.rcomp 0 (block_pieces u symbols frame position a) in
           let o = rw (behind_is_pieces u.alphabet a.block.rcomp (block_pieces u symbols frame position a)) at b in
           omega (arith, text_is)
 
-      pub several_whole : (text : ℕ) → text ≡ found.text + clips_length a.block.clips → whole_at a position text ≡ placed u reference symbols frame position a
+      pub several_whole : (text : ℕ) → text ≡ found + clips_length a.block.clips → Ok (whole_at a position text) ≡ placed u reference symbols frame position a
       unfolding placed
       several_whole text e = let w = text_whole in rw (fine_is, e, w) refl
 
@@ -92,7 +95,7 @@ module _ (u : Unit) (reference symbols frame : List ℕ) (position : ℕ) (a : A
           (all_placed u reference 0 (block_pieces u symbols frame position a) fine_is)).1
 
       -- it is short enough
-      pub several_short : u.end < 2 ^ 32 → found.text ≤ 5000
+      pub several_short : u.end < 2 ^ 32 → found ≤ 5000
       unfolding pieces_in
       several_short fits =
           let g = t.pieced in

@@ -5,7 +5,6 @@ pub mod ChoiceLaws
 pub mod SegmentLaws
 pub mod PlaceLaws
 pub mod WriteLaws
-pub mod Steps
 pub mod Unique
 pub mod RefusalLaws
 pub mod BytesLaws

@@ -6,10 +6,11 @@ use mathlib.Core.Bool.{false}
 use mathlib.Core.List.{List, [], ◌∷◌}
 use native.Mathlib.Omega.{arith}
 use native.Mathlib.Nat.{sub-zero}
-use borrow.Author.Tests.{ltb-false, eqb-true, eqb-false}
-use lib.Dec.{ltb, eqb}
+use borrow.Author.Tests.{ltb-false}
+use lib.Dec.{ltb}
 use lib.ListN.{length}
-use Rattle.refusal.specs.Numbers.{fine, first_refusal}
+use Rattle.refusal.specs.Answers.{fine}
+use Rattle.refusal.proofs.AnswerLaws.{past_checked, never_refused}
 use Rattle.frame.proofs.HexLaws.{by_test}
 use Rattle.unit.specs.declared.Unit.{Unit as UnitOf}
 use Rattle.state.specs.Listed.{words_at}
@@ -36,15 +37,12 @@ pub record PiecePlaced (u : UnitOf) (reference : List ℕ) (least : ℕ) (p : Pi
   pub inside : Inside u.start u.end (begins_at p) (spliced_seg_mapped_length p)
   pub known : piece_refusal u.alphabet reference u.first p ≡ fine
 
-both_fine : (a b : ℕ) → first_refusal a b ≡ fine → (a ≡ fine) × (b ≡ fine)
-both_fine a b z = by_test (eqb a fine) (λ t. (eqb-true a fine t, simp t at z)) (λ t. absurd (eqb-false a fine t (simp t at z)))
-
 piece_placed : (u : UnitOf) (reference : List ℕ) (least : ℕ) (p : Piece) → placed_piece u reference least p ≡ fine → PiecePlaced u reference least p
 unfolding piece_out
 piece_placed u reference least p z =
-    let f = both_fine (piece_out u least p) (piece_refusal u.alphabet reference u.first p) z in
-    by_test (below_zero p.at) (λ t. let y = simp t at f.0 in absurd (omega arith))
-    (λ t. by_test (ltb (begins_at p) least) (λ d. let y = simp (t, d) at f.0 in absurd (omega arith))
+    let f = past_checked (piece_out u least p) (piece_refusal u.alphabet reference u.first p) tt z in
+    by_test (below_zero p.at) (λ t. never_refused (simp t at f.0))
+    (λ t. by_test (ltb (begins_at p) least) (λ d. never_refused (simp (t, d) at f.0))
     (λ d.
     record {
       straightly = t;
@@ -63,7 +61,7 @@ pub all_placed : (u : UnitOf) (reference : List ℕ) (least : ℕ) (ps : List Pi
 unfolding pieces_refusal AllPlaced
 all_placed u reference least [] z = tt
 all_placed u reference least (p ∷ ps) z =
-    let f = both_fine (placed_piece u reference least p) (pieces_refusal u reference (least_behind p) ps) z in
+    let f = past_checked (placed_piece u reference least p) (pieces_refusal u reference (least_behind p) ps) tt z in
     (piece_placed u reference least p f.0, all_placed u reference (least_behind p) ps f.1)
 
 -- what holds of each that is placed

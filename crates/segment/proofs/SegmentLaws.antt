@@ -1,13 +1,15 @@
 -- The laws of a segment that was accepted: it is ready to be written, its bytes are as many as `segment_length` says, and that is at most `most_segment_bytes`.
 -- Assumes nothing.
-use mathlib.Core.Path.{◌≡◌, refl, ap}
+use mathlib.Core.Path.{◌≡◌, refl, sym, ap}
 use mathlib.Core.List.{List}
 use Prim.Native.Nat.{ℕ, zero, suc, ◌+◌, ◌^◌, ◌<◌, ◌≤◌}
 use native.Mathlib.Omega.{arith}
-use borrow.Author.Tests.{eqb-true}
-use lib.Dec.{ltb, eqb}
+use lib.Dec.{ltb}
 use lib.ListN.{length, get_or, length-append}
-use Rattle.refusal.specs.Numbers.{fine}
+use Rattle.std.specs.Prelude.{Ok, Err}
+use Rattle.frame.specs.Field.{Field, after_field}
+use Rattle.refusal.specs.Answers.{fine}
+use Rattle.refusal.proofs.AnswerLaws.{past_ok, past_checked, ok_pair, never_refused}
 use Rattle.frame.specs.declared.field.Cursor.{Cursor}
 use Rattle.frame.proofs.HexLaws.{by_test, length_be}
 use Rattle.frame.specs.Field.{big_at}
@@ -27,27 +29,19 @@ use Rattle.bases.proofs.SplicedLaws.{length_read_bases}
 use Rattle.pieces.specs.Placed.{pieces_refusal}
 use Rattle.pieces.specs.Code.Written.{Standing}
 use Rattle.ecigar.specs.Ecigar.{OfItsClass}
-use Rattle.block.specs.Checked.{length_at, after_checked}
+use Rattle.block.specs.Checked.{length_at}
 use Rattle.block.specs.Symbols.{symbols_from}
 use Rattle.block.specs.Aligned.{aligned_at}
 use Rattle.block.specs.Unaligned.{from_length, unaligned_at}
-use Rattle.segment.specs.Segment.{block_pieces, text_length, placement, placed_segment, placed, placed_at, after_block, plain_at, after_plain, table94, aligned_bytes, unaligned_bytes, segment_bytes}
+use Rattle.segment.specs.Segment.{block_pieces, text_length, placement, placed_segment, placed, placed_at, plain_at, table94, aligned_bytes, unaligned_bytes, segment_bytes}
 use Rattle.segment.specs.Code.Length.{most_segment_bytes, segment_length}
 use Rattle.segment.specs.Code.Ready.{Pieced, ReadyAligned, Ready}
-use Rattle.block.specs.declared.checked.CheckedField.{CheckedField}
-use Rattle.block.specs.declared.checked.CheckedField.TheVariants as field
 use Rattle.block.specs.declared.head.BlockHead.{BlockHead}
 use Rattle.block.specs.Code.Ready.{ReadyHead}
 use Rattle.block.specs.declared.aligned.AlignedBlock.{AlignedBlock}
-use Rattle.block.specs.declared.aligned.AlignedRead.{AlignedRead}
-use Rattle.block.specs.declared.aligned.AlignedRead.TheVariants as aligned
 use Rattle.block.specs.declared.unaligned.UnalignedBlock.{UnalignedBlock}
-use Rattle.block.specs.declared.unaligned.UnalignedRead.{UnalignedRead}
-use Rattle.block.specs.declared.unaligned.UnalignedRead.TheVariants as unaligned
 use Rattle.segment.specs.declared.Segment.{Segment}
 use Rattle.segment.specs.declared.Segment.TheVariants.{Unaligned, Absent}
-use Rattle.segment.specs.declared.SegmentRead.{SegmentRead}
-use Rattle.segment.specs.declared.SegmentRead.TheVariants.{Whole}
 use Rattle.block.proofs.ReadyLaws.{ReadyBlock, of_its_class, block_ready, length_got, symbols_got}
 use Rattle.bases.proofs.ReferenceLaws.{length_letters}
 use Rattle.segment.proofs.PiecedLaws.{all_sound, all_span, leaves_more, text_is_table94}
@@ -140,32 +134,26 @@ module _ (u : Unit) (reference symbols frame : List ℕ) (position : ℕ) where
           }
 
   module _ (p : Segment) (next : Cursor) (first : class_p ≤ u.class) (last : u.class ≤ class_hm) (fits : u.end < 2 ^ 32) where
-    aligned_taken : (a : AlignedBlock) → ((i : ℕ) → get_or frame i 0 < 256) → ReadyBlock u.class u.alphabet frame a → placed u reference symbols frame position a ≡ Whole p next → SegmentTaken u reference symbols frame p next.at
+    aligned_taken : (a : AlignedBlock) → ((i : ℕ) → get_or frame i 0 < 256) → ReadyBlock u.class u.alphabet frame a → placed u reference symbols frame position a ≡ Ok (p, next) → SegmentTaken u reference symbols frame p next.at
     unfolding placed
     aligned_taken a bytes r q =
-        by_test (eqb (pieces_refusal u reference 0 (block_pieces u symbols frame position a)) fine)
-        (λ s.
-        let w : ◌≡◌ {A = SegmentRead} (Whole (placed_segment u symbols frame position a) a.next) (Whole p next) = simp s at q in
-        let e : p ≡ placed_segment u symbols frame position a = cc in
-        let n : next.at ≡ a.next.at = ap (λ (c : Cursor). c.at) (cc) in
+        let f = past_checked (pieces_refusal u reference 0 (block_pieces u symbols frame position a)) _ (p, next) q in
+        let w = ok_pair f.1 in
+        let n : a.next.at ≡ next.at = ap (λ (c : Cursor). c.at) w.1 in
         let class = of_its_class u.class u.alphabet frame a r first last in
-        let z = eqb-true _ _ s in
-        rw (e, n)
+        rw (← w.0, ← n)
         record {
-          ready = aligned_ready a r fits z class;
-          long = aligned_long a r fits z class;
-          most = aligned_most a r fits z bytes;
+          ready = aligned_ready a r fits f.0 class;
+          long = aligned_long a r fits f.0 class;
+          most = aligned_most a r fits f.0 bytes;
           inside = r.inside;
-        })
-        (λ s. absurd (let w = simp s at q in let z : ◌≡◌ {A = ℕ} 0 1 = cc in omega arith))
+        }
 
-    pub placed_taken : (h : BlockHead) → ReadyHead u.class frame h → ((i : ℕ) → get_or frame i 0 < 256) → placed_at u reference symbols frame position h ≡ Whole p next → SegmentTaken u reference symbols frame p next.at
+    pub placed_taken : (h : BlockHead) → ReadyHead u.class frame h → ((i : ℕ) → get_or frame i 0 < 256) → placed_at u reference symbols frame position h ≡ Ok (p, next) → SegmentTaken u reference symbols frame p next.at
     unfolding placed_at
-    placed_taken h r bytes q = by (aligned_at u.class u.alphabet frame h) refl q
-      where
-        by : (x : AlignedRead) → aligned_at u.class u.alphabet frame h ≡ x → after_block u reference symbols frame position x ≡ Whole p next → SegmentTaken u reference symbols frame p next.at
-        by (aligned.Refused n) e z = absurd (let y : ◌≡◌ {A = ℕ} 0 1 = cc in omega arith)
-        by (aligned.Whole a) e z = aligned_taken a bytes (block_ready u.class u.alphabet frame h a r e) z
+    placed_taken h r bytes q =
+        let b = past_ok (aligned_at u.class u.alphabet frame h) _ (p, next) q in
+        aligned_taken b.value bytes (block_ready u.class u.alphabet frame h b.value r b.accepted) b.rest
 
 -- ---- an unaligned segment
 
@@ -173,44 +161,43 @@ plain_long : (u : Unit) (reference symbols frame : List ℕ) (s : UnalignedBlock
 unfolding segment_bytes unaligned_bytes segment_length
 plain_long u reference symbols frame s = simp (length-append, length_be, length_letters) (omega arith)
 
--- what follows a checked field that is accepted
-plain_whole : (x : CheckedField) (f : ℕ → Cursor → UnalignedRead) (s : UnalignedBlock) {P : Type 0} → after_checked unaligned.Refused x f ≡ unaligned.Whole s
-    → ((v : ℕ) (c : Cursor) → x ≡ field.Value v c → f v c ≡ unaligned.Whole s → P) → P
-plain_whole (field.Value v c) f s q go = go v c refl q
-plain_whole (field.Refused n) f s q go = absurd (let z : ◌≡◌ {A = ℕ} 0 1 = cc in omega arith)
-
 -- an unaligned block that is accepted: its symbols stand in the frame
 pub record PlainBlock (frame : List ℕ) (s : UnalignedBlock) : Type 0 where
   pub most : s.length ≤ most_read
   pub framed : s.at + s.length ≤ length frame
   pub inside : s.next.at ≤ length frame
 
-pub plain_ready : (alphabet : ℕ) (frame : List ℕ) (at : ℕ) (s : UnalignedBlock) → unaligned_at alphabet frame at ≡ unaligned.Whole s → PlainBlock frame s
+pub plain_ready : (alphabet : ℕ) (frame : List ℕ) (at : ℕ) (s : UnalignedBlock) → unaligned_at alphabet frame at ≡ Ok s → PlainBlock frame s
 unfolding unaligned_at from_length
-plain_ready alphabet frame at s q =
-    plain_whole (length_at frame at) _ s q
-    (λ v c e r.
-    let g = length_got frame at v c e in
-    plain_whole (symbols_from alphabet frame v v c.at) _ s r
-    (λ n next f z.
-    let h = symbols_got alphabet frame v v c.at n next f g.inside in
-    let m : ◌≡◌ {A = UnalignedBlock} s (record { length = v; at = c.at; next = next }) = cc in
-    rw m record { most = g.below; framed = h.1; inside = omega (arith, h.0, h.1) }))
+plain_ready alphabet frame at s q = by (length_at frame at) refl q
+  where
+    behind : (v : ℕ) (c : Cursor) → length_at frame at ≡ Ok (v, c) → (x : Field) → symbols_from alphabet frame v v c.at ≡ x
+        → after_field Err x (λ count next. Ok record { length = v; at = c.at; next = next }) ≡ Ok s → PlainBlock frame s
+    behind v c e (Err n) f r = never_refused r
+    behind v c e (Ok (n, next)) f r =
+        let g = length_got frame at v c e in
+        let h = symbols_got alphabet frame v v c.at n next f g.inside in
+        let m : ◌≡◌ {A = UnalignedBlock} (record { length = v; at = c.at; next = next }) s = cc in
+        rw (← m) record { most = g.below; framed = h.1; inside = omega (arith, h.0, h.1) }
+
+    by : (x : Field) → length_at frame at ≡ x → after_field Err x (λ length next. from_length alphabet frame length next.at) ≡ Ok s → PlainBlock frame s
+    by (Err n) e r = never_refused r
+    by (Ok (v, c)) e r = behind v c e (symbols_from alphabet frame v v c.at) refl r
 
 plain_most : (frame : List ℕ) (s : UnalignedBlock) → PlainBlock frame s → segment_length (Unaligned s) ≤ most_segment_bytes
 unfolding segment_length
 plain_most frame s g = omega (arith, g.most)
 
-pub plain_taken : (u : Unit) (reference symbols frame : List ℕ) (at : ℕ) (p : Segment) (next : Cursor) → plain_at u frame at ≡ Whole p next → SegmentTaken u reference symbols frame p next.at
+pub plain_taken : (u : Unit) (reference symbols frame : List ℕ) (at : ℕ) (p : Segment) (next : Cursor) → plain_at u frame at ≡ Ok (p, next) → SegmentTaken u reference symbols frame p next.at
 unfolding plain_at
-plain_taken u reference symbols frame at p next q = by (unaligned_at u.alphabet frame at) refl q
+plain_taken u reference symbols frame at p next q =
+    let b = past_ok (unaligned_at u.alphabet frame at) _ (p, next) q in
+    let w = ok_pair b.rest in
+    is b.value b.accepted (sym w.0) (ap (λ (c : Cursor). c.at) (sym w.1))
   where
-    by : (x : UnalignedRead) → unaligned_at u.alphabet frame at ≡ x → after_plain x ≡ Whole p next → SegmentTaken u reference symbols frame p next.at
-    by (unaligned.Refused n) e z = absurd (let y : ◌≡◌ {A = ℕ} 0 1 = cc in omega arith)
-    by (unaligned.Whole s) e z =
+    is : (s : UnalignedBlock) → unaligned_at u.alphabet frame at ≡ Ok s → p ≡ Unaligned s → next.at ≡ s.next.at → SegmentTaken u reference symbols frame p next.at
+    is s e i n =
         let g = plain_ready u.alphabet frame at s e in
-        let i : p ≡ Unaligned s = cc in
-        let n : next.at ≡ s.next.at = ap (λ (c : Cursor). c.at) (cc) in
         rw (i, n) record { ready = record { framed = g.framed }; long = plain_long u reference symbols frame s; most = plain_most frame s g; inside = g.inside }
 
 -- a segment that is not there

@@ -7,10 +7,12 @@ use mathlib.Core.Bool.{true, false}
 use mathlib.Core.List.{List, [], ◌∷◌}
 use native.Mathlib.Omega.{arith}
 use native.Mathlib.Nat.{sub-zero}
-use borrow.Author.Tests.{eqb-true, lt-ltb, le-ltb, ltb-true, ltb-false, leb-false}
-use lib.Dec.{eqb, ltb, leb}
+use borrow.Author.Tests.{lt-ltb, le-ltb, ltb-true, ltb-false, leb-false}
+use lib.Dec.{ltb, leb}
 use lib.ListN.{length, get_or}
-use Rattle.refusal.specs.Numbers.{fine}
+use Rattle.std.specs.Prelude.{Ok}
+use Rattle.refusal.specs.Answers.{fine}
+use Rattle.refusal.proofs.AnswerLaws.{past_ok, past_checked, ok_pair, never_refused}
 use Rattle.frame.specs.declared.field.Cursor.{Cursor}
 use Rattle.frame.proofs.HexLaws.{by_test}
 use Rattle.unit.specs.Unit.{class_p, class_hm}
@@ -42,22 +44,16 @@ use Rattle.bases.proofs.FlankedLaws.{lies_place, lies_below, uninserted_lies, fi
 use Rattle.pieces.specs.Placed.{pieces_refusal}
 use Rattle.block.specs.Aligned.{aligned_at}
 use Rattle.block.specs.Unaligned.{unaligned_at}
-use Rattle.segment.specs.Segment.{block_pieces, placement, placed_segment, placed, after_block, placed_at, after_plain, plain_at}
+use Rattle.segment.specs.Segment.{block_pieces, placement, placed, placed_at, plain_at}
 use Rattle.segment.specs.Listed.{listed_bases, listed_ecigar, listed_operations, edits_in, pieces_at, mapped_in, table92, Matches, Brought, Lies, Deleted, Letter, InUnit, Follow}
 use Rattle.segment.specs.Code.Ready.{Pieced}
 use Rattle.block.specs.declared.head.BlockHead.{BlockHead}
 use Rattle.block.specs.Code.Ready.{ReadyHead}
 use Rattle.block.specs.declared.aligned.AlignedBlock.{AlignedBlock}
-use Rattle.block.specs.declared.aligned.AlignedRead.{AlignedRead}
-use Rattle.block.specs.declared.aligned.AlignedRead.TheVariants as aligned
 use Rattle.block.specs.declared.unaligned.UnalignedBlock.{UnalignedBlock}
-use Rattle.block.specs.declared.unaligned.UnalignedRead.{UnalignedRead}
-use Rattle.block.specs.declared.unaligned.UnalignedRead.TheVariants as unaligned
 use Rattle.segment.specs.declared.Placed.{Placed}
 use Rattle.segment.specs.declared.Segment.{Segment}
 use Rattle.segment.specs.declared.Segment.TheVariants.{Aligned, Unaligned}
-use Rattle.segment.specs.declared.SegmentRead.{SegmentRead}
-use Rattle.segment.specs.declared.SegmentRead.TheVariants.{Whole}
 use Rattle.block.proofs.ReadyLaws.{ReadyBlock, of_its_class, block_ready}
 use Rattle.segment.proofs.OneLaws.{only_piece, only_piece_lem}
 use Rattle.segment.proofs.PiecedLaws.{length_positions, all_sound, all_span, text_is_table94, text_is_table92}
@@ -76,13 +72,12 @@ pub record SegmentAccepted (u : Unit) (reference symbols frame : List ℕ) (q : 
   pub placed : AllPlaced u reference 0 (pieces_at u symbols frame q)
 
 module _ (u : Unit) (reference symbols frame : List ℕ) (position : ℕ) (q : Placed) (next : Cursor) where
-  aligned_accepted : class_p ≤ u.class → u.class ≤ class_hm → (a : AlignedBlock) → ReadyBlock u.class u.alphabet frame a → placed u reference symbols frame position a ≡ Whole (Aligned q) next
+  aligned_accepted : class_p ≤ u.class → u.class ≤ class_hm → (a : AlignedBlock) → ReadyBlock u.class u.alphabet frame a → placed u reference symbols frame position a ≡ Ok (Aligned q, next)
       → SegmentAccepted u reference symbols frame q × (q.position ≡ position)
   unfolding placed
   aligned_accepted first last a r e =
-      by_test (eqb (pieces_refusal u reference 0 (block_pieces u symbols frame position a)) fine)
-      (λ s.
-      let w : ◌≡◌ {A = SegmentRead} (Whole (placed_segment u symbols frame position a) a.next) (Whole (Aligned q) next) = simp s at e in
+      let f = past_checked (pieces_refusal u reference 0 (block_pieces u symbols frame position a)) _ (Aligned q, next) e in
+      let w = ok_pair f.1 in
       let i : q ≡ placement u symbols frame position a = cc in
       rw i (
         record {
@@ -91,43 +86,34 @@ module _ (u : Unit) (reference symbols frame : List ℕ) (position : ℕ) (q : P
           flanks = r.flanks;
           clipped = r.sides.symbols;
           fit = r.sides.fit;
-          placed = all_placed u reference 0 (block_pieces u symbols frame position a) (eqb-true _ _ s);
+          placed = all_placed u reference 0 (block_pieces u symbols frame position a) f.0;
         },
         refl,
-      ))
-      (λ s. absurd (let w = simp s at e in let z : ◌≡◌ {A = ℕ} 0 1 = cc in omega arith))
+      )
 
   -- every aligned segment that is read is such a segment, and stands at the position that was given
-  pub placed_accepted : (h : BlockHead) → ReadyHead u.class frame h → class_p ≤ u.class → u.class ≤ class_hm → placed_at u reference symbols frame position h ≡ Whole (Aligned q) next
+  pub placed_accepted : (h : BlockHead) → ReadyHead u.class frame h → class_p ≤ u.class → u.class ≤ class_hm → placed_at u reference symbols frame position h ≡ Ok (Aligned q, next)
       → SegmentAccepted u reference symbols frame q × (q.position ≡ position)
   unfolding placed_at
-  placed_accepted h r first last e = by (aligned_at u.class u.alphabet frame h) refl e
-    where
-      by : (x : AlignedRead) → aligned_at u.class u.alphabet frame h ≡ x → after_block u reference symbols frame position x ≡ Whole (Aligned q) next → SegmentAccepted u reference symbols frame q × (q.position ≡ position)
-      by (aligned.Refused n) f z = absurd (let y : ◌≡◌ {A = ℕ} 0 1 = cc in omega arith)
-      by (aligned.Whole a) f z = aligned_accepted first last a (block_ready u.class u.alphabet frame h a r f) z
+  placed_accepted h r first last e =
+      let b = past_ok (aligned_at u.class u.alphabet frame h) _ (Aligned q, next) e in
+      aligned_accepted first last b.value (block_ready u.class u.alphabet frame h b.value r b.accepted) b.rest
 
 -- ---- what is read at an aligned place is aligned, and what is read at another is not
 
 module _ (u : Unit) (frame : List ℕ) (p : Segment) (next : Cursor) where
-  pub placed_aligned : (reference symbols : List ℕ) (position : ℕ) (h : BlockHead) → placed_at u reference symbols frame position h ≡ Whole p next → (q : Placed) × (p ≡ Aligned q)
+  pub placed_aligned : (reference symbols : List ℕ) (position : ℕ) (h : BlockHead) → placed_at u reference symbols frame position h ≡ Ok (p, next) → (q : Placed) × (p ≡ Aligned q)
   unfolding placed_at placed
-  placed_aligned reference symbols position h e = by (aligned_at u.class u.alphabet frame h) e
-    where
-      by : (x : AlignedRead) → after_block u reference symbols frame position x ≡ Whole p next → (q : Placed) × (p ≡ Aligned q)
-      by (aligned.Refused n) z = absurd (let y : ◌≡◌ {A = ℕ} 0 1 = cc in omega arith)
-      by (aligned.Whole a) z =
-          by_test (eqb (pieces_refusal u reference 0 (block_pieces u symbols frame position a)) fine)
-          (λ s. let w : ◌≡◌ {A = SegmentRead} (Whole (placed_segment u symbols frame position a) a.next) (Whole p next) = simp s at z in (placement u symbols frame position a, cc))
-          (λ s. absurd (let w = simp s at z in let y : ◌≡◌ {A = ℕ} 0 1 = cc in omega arith))
+  placed_aligned reference symbols position h e =
+      let b = past_ok (aligned_at u.class u.alphabet frame h) _ (p, next) e in
+      let f = past_checked (pieces_refusal u reference 0 (block_pieces u symbols frame position b.value)) _ (p, next) b.rest in
+      (placement u symbols frame position b.value, sym (ok_pair f.1).0)
 
-  pub plain_unaligned : (at : ℕ) → plain_at u frame at ≡ Whole p next → (s : UnalignedBlock) × (p ≡ Unaligned s)
+  pub plain_unaligned : (at : ℕ) → plain_at u frame at ≡ Ok (p, next) → (s : UnalignedBlock) × (p ≡ Unaligned s)
   unfolding plain_at
-  plain_unaligned at e = by (unaligned_at u.alphabet frame at) e
-    where
-      by : (x : UnalignedRead) → after_plain x ≡ Whole p next → (s : UnalignedBlock) × (p ≡ Unaligned s)
-      by (unaligned.Refused n) z = absurd (let y : ◌≡◌ {A = ℕ} 0 1 = cc in omega arith)
-      by (unaligned.Whole s) z = (s, cc)
+  plain_unaligned at e =
+      let b = past_ok (unaligned_at u.alphabet frame at) _ (p, next) e in
+      (b.value, sym (ok_pair b.rest).0)
 
 -- ---- the reference at a position
 
@@ -149,7 +135,7 @@ unfolding base_refusal base_at
 base_letter alphabet reference first at z =
     by_test (is_lent reference first at)
     (λ t. by_test (leb (size_of alphabet) (lent_symbol reference first at))
-    (λ s. let y = simp (t, s) at z in absurd (omega arith))
+    (λ s. never_refused (simp (t, s) at z))
     (λ s. (lent_symbol reference first at, (leb-false (size_of alphabet) (lent_symbol reference first at) s, simp t))))
     (λ t. (code_of_n alphabet, (code_of_n_inside alphabet, simp t (sym (letter_of_n alphabet)))))
 

@@ -1,7 +1,8 @@
 -- A segment of a record: what is refused of it, and the bytes that list it (document 01, The listing and Order).
 -- Assumes nothing.
-use Rattle.std.specs.Prelude.{ℕ, ◌+◌, cond, List, [], ◌++◌, eqb, length}
-use Rattle.refusal.specs.Numbers.{fine}
+use Rattle.std.specs.Prelude.{ℕ, ◌+◌, List, [], ◌++◌, length, Ok}
+use Rattle.refusal.specs.Answers.{OrRefused, after_ok, checked}
+use Rattle.frame.specs.declared.field.Cursor.{Cursor}
 use Rattle.frame.specs.Hex.{be}
 use Rattle.unit.specs.declared.Unit.{Unit}
 use Rattle.edits.specs.declared.edit.Edit.{Edit}
@@ -14,31 +15,16 @@ use Rattle.ecigar.specs.Spliced.{read_text}
 use Rattle.bases.specs.Bases.{letters_at}
 use Rattle.bases.specs.Spliced.{read_bases}
 use Rattle.pieces.specs.Placed.{pieces_refusal}
-use Rattle.block.specs.Aligned.{aligned_at, aligned_number}
-use Rattle.block.specs.Unaligned.{unaligned_at, unaligned_number}
+use Rattle.block.specs.Aligned.{aligned_at}
+use Rattle.block.specs.Unaligned.{unaligned_at}
 use Rattle.block.specs.declared.head.BlockHead.{BlockHead}
 use Rattle.block.specs.declared.aligned.AlignedBlock.{AlignedBlock}
-use Rattle.block.specs.declared.aligned.AlignedRead.{AlignedRead}
-use Rattle.block.specs.declared.aligned.AlignedRead.TheVariants as aligned
 use Rattle.block.specs.declared.unaligned.UnalignedBlock.{UnalignedBlock}
-use Rattle.block.specs.declared.unaligned.UnalignedRead.{UnalignedRead}
-use Rattle.block.specs.declared.unaligned.UnalignedRead.TheVariants as unaligned
 use Rattle.segment.specs.declared.Placed.{Placed}
 use Rattle.segment.specs.declared.Segment.{Segment}
 use Rattle.segment.specs.declared.Segment.TheVariants.{Aligned, Unaligned, Absent}
-use Rattle.segment.specs.declared.SegmentRead.{SegmentRead}
-use Rattle.segment.specs.declared.SegmentRead.TheVariants.{Whole, Refused}
 
 -- ---- what is refused
-
--- document 01's number of an answer
-abbrev pub segment_number : SegmentRead → ℕ
-segment_number (Whole p next) = fine
-segment_number (Refused n) = n
-
--- refused by a number, unless it is 0
-abbrev pub unless_refused : (number : ℕ) → SegmentRead → SegmentRead
-unless_refused number go = cond (eqb number fine) go (Refused number)
 
 -- the pieces of a block at a position: one, unless it is a read over introns
 abbrev pub block_pieces : Unit → (symbols frame : List ℕ) (position : ℕ) → AlignedBlock → List Piece
@@ -56,26 +42,18 @@ abbrev pub placed_segment : Unit → (symbols frame : List ℕ) (position : ℕ)
 placed_segment u symbols frame position a = Aligned (placement u symbols frame position a)
 
 -- after each aligned segment, whose deletions are all flanked by now (12), piece by piece, 13, then 10 for the reference
-unfoldable pub placed : Unit → (reference symbols frame : List ℕ) (position : ℕ) → AlignedBlock → SegmentRead
+unfoldable pub placed : Unit → (reference symbols frame : List ℕ) (position : ℕ) → AlignedBlock → OrRefused (Segment × Cursor)
 placed u reference symbols frame position a =
-    unless_refused (pieces_refusal u reference 0 (block_pieces u symbols frame position a)) (Whole (placed_segment u symbols frame position a) a.next)
+    checked (pieces_refusal u reference 0 (block_pieces u symbols frame position a)) (Ok (placed_segment u symbols frame position a, a.next))
 
--- a block's refusal is the segment's
-abbrev pub after_block : Unit → (reference symbols frame : List ℕ) (position : ℕ) → AlignedRead → SegmentRead
-after_block u reference symbols frame position (aligned.Refused n) = Refused (aligned_number (aligned.Refused n))
-after_block u reference symbols frame position (aligned.Whole a) = placed u reference symbols frame position a
+-- an aligned segment of the unit, behind the head of its block, and the place behind the block; a block's refusal is the segment's
+unfoldable pub placed_at : Unit → (reference symbols frame : List ℕ) (position : ℕ) → BlockHead → OrRefused (Segment × Cursor)
+placed_at u reference symbols frame position head =
+    after_ok (aligned_at u.class u.alphabet frame head) (λ a. placed u reference symbols frame position a)
 
--- an aligned segment of the unit, behind the head of its block
-unfoldable pub placed_at : Unit → (reference symbols frame : List ℕ) (position : ℕ) → BlockHead → SegmentRead
-placed_at u reference symbols frame position head = after_block u reference symbols frame position (aligned_at u.class u.alphabet frame head)
-
-abbrev pub after_plain : UnalignedRead → SegmentRead
-after_plain (unaligned.Refused n) = Refused (unaligned_number (unaligned.Refused n))
-after_plain (unaligned.Whole s) = Whole (Unaligned s) s.next
-
--- an unaligned segment
-unfoldable pub plain_at : Unit → (frame : List ℕ) (at : ℕ) → SegmentRead
-plain_at u frame at = after_plain (unaligned_at u.alphabet frame at)
+-- an unaligned segment, and the place behind its block
+unfoldable pub plain_at : Unit → (frame : List ℕ) (at : ℕ) → OrRefused (Segment × Cursor)
+plain_at u frame at = after_ok (unaligned_at u.alphabet frame at) (λ s. Ok (Unaligned s, s.next))
 
 -- ---- what lists it
 

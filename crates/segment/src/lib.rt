@@ -13,14 +13,15 @@ ghost use Rattle.segment.specs.Code.Length.{segment_length};
 ghost use Rattle.segment.specs.Code.Ready.{Tallied};
 ghost use Rattle.segment.specs.Code.Whole.{under_matches, whole_at};
 
-use block::aligned::{AlignedBlock, AlignedRead, read_block};
+use block::aligned::{AlignedBlock, read_block};
 use block::head::BlockHead;
 use block::unaligned;
-use block::unaligned::{UnalignedBlock, UnalignedRead};
+use block::unaligned::UnalignedBlock;
 use edits::{Block, Clips, run_of};
 use frame::field::Cursor;
 use limits::Limit;
 use pieces::check::check_pieces;
+use refusal::Refusal;
 use splices::Splices;
 use unit::Unit;
 
@@ -48,20 +49,12 @@ impl Segment {
     {
         match self {
             Segment::Aligned(p) => {
-                let block = p.block;
-                Limit::SEGMENT_FIELDS + block.length as usize + p.text as usize
+                Limit::SEGMENT_FIELDS + p.block.length as usize + p.text as usize
             }
             Segment::Unaligned(s) => Limit::SEGMENT_FIELDS + s.length as usize,
             Segment::Absent => 0,
         }
     }
-}
-
-// A segment and the place behind its block, or the refusal's number.
-#[derive(Clone, Copy)]
-pub enum SegmentRead {
-    Whole(Segment, Cursor),
-    Refused(u32),
 }
 
 // An aligned segment behind the head of its block: the block's fields, then piece by piece its place in the unit (13) and the reference under its matches (10).
@@ -72,15 +65,13 @@ pub fn read_aligned(
     symbols: &[u32],
     position: u64,
     head: BlockHead,
-) -> SegmentRead
+) -> Result<(Segment, Cursor), Refusal>
     requires ready_head { ReadyHead unit.class frame.now head }
     requires position_bound { position < 2 ^ 33 }
     ensures { result ≡ placed_at unit reference.now symbols.now frame.now position head }
 {
-    match read_block(frame, unit.class, unit.alphabet, head) {
-        AlignedRead::Refused(n) => SegmentRead::Refused(n),
-        AlignedRead::Whole(a) => place_block(frame, unit, reference, symbols, position, a),
-    }
+    let a = read_block(frame, unit.class, unit.alphabet, head)?;
+    place_block(frame, unit, reference, symbols, position, a)
 }
 
 // A read over introns goes piece by piece.
@@ -91,13 +82,12 @@ fn place_block(
     symbols: &[u32],
     position: u64,
     a: AlignedBlock,
-) -> SegmentRead
+) -> Result<(Segment, Cursor), Refusal>
     requires tallied { Tallied unit.class unit.alphabet frame.now a }
     requires position_bound { position < 2 ^ 33 }
     ensures { result ≡ placed unit reference.now symbols.now frame.now position a }
 {
-    let splices = a.splices;
-    if splices.pieces() < 2 {
+    if a.splices.pieces() < 2 {
         return place_whole(frame, unit, reference, position, a);
     }
     place_pieces(frame, unit, reference, symbols, position, a)
@@ -105,13 +95,19 @@ fn place_block(
 
 // Refusal 10 of the reference under the matches of a block that was accepted.
 // Every position that it takes is looked at at once, and the matches alone only where that finds something.
-fn under_matches(frame: &[u8], unit: Unit, reference: &[u8], position: u32, a: AlignedBlock) -> u32
+fn under_matches(
+    frame: &[u8],
+    unit: Unit,
+    reference: &[u8],
+    position: u32,
+    a: AlignedBlock,
+) -> Result<(), Refusal>
     requires { Tallied unit.class unit.alphabet frame.now a }
     ensures { result ≡ under_matches unit reference.now frame.now position a.block }
 {
     let found = bases::check_positions(reference, unit.first, unit.alphabet, position, a.taken);
-    if found == refusal::FINE {
-        return refusal::FINE;
+    if found.is_ok() {
+        return found;
     }
     let run = run_of(a.block);
     bases::check_reference(
@@ -126,19 +122,16 @@ fn under_matches(frame: &[u8], unit: Unit, reference: &[u8], position: u32, a: A
 }
 
 // A segment at its position, with the length of its E-CIGAR.
-fn whole(a: AlignedBlock, position: u32, text: u32) -> SegmentRead
+fn whole(a: AlignedBlock, position: u32, text: u32) -> (Segment, Cursor)
     ensures { result ≡ whole_at a position text }
 {
-    let block = a.block;
-    let splices = a.splices;
-    let next = a.next;
     let whole = Placed {
-        block,
-        splices,
+        block: a.block,
+        splices: a.splices,
         position,
         text,
     };
-    SegmentRead::Whole(Segment::Aligned(whole), next)
+    (Segment::Aligned(whole), a.next)
 }
 
 // A block of one piece: what its edits take and how long its text is was counted when they were read.
@@ -148,20 +141,14 @@ fn place_whole(
     reference: &[u8],
     position: u64,
     a: AlignedBlock,
-) -> SegmentRead
+) -> Result<(Segment, Cursor), Refusal>
     requires { Tallied unit.class unit.alphabet frame.now a × (a.splices.count < 2) }
     ensures { (symbols : List ℕ) → result ≡ placed unit reference.now symbols frame.now position a }
 {
-    let outside = pieces::place::refusal_of(unit, position, a.taken);
-    if outside != refusal::FINE {
-        return SegmentRead::Refused(outside);
-    }
+    pieces::place::check(unit, position, a.taken)?;
     let start = position as u32;
-    let unknown = under_matches(frame, unit, reference, start, a);
-    if unknown != refusal::FINE {
-        return SegmentRead::Refused(unknown);
-    }
-    whole(a, start, a.text)
+    under_matches(frame, unit, reference, start, a)?;
+    Ok(whole(a, start, a.text))
 }
 
 // The length of a text, and of the clips around it.
@@ -180,29 +167,21 @@ fn place_pieces(
     symbols: &[u32],
     position: u64,
     a: AlignedBlock,
-) -> SegmentRead
+) -> Result<(Segment, Cursor), Refusal>
     requires tallied { Tallied unit.class unit.alphabet frame.now a × ((2 ≤ a.splices.count) × NarrowSplices a.splices) }
     requires position_bound { position < 2 ^ 33 }
     ensures { result ≡ placed unit reference.now symbols.now frame.now position a }
 {
-    let block = a.block;
-    let clips = block.clips;
-    let found = check_pieces(frame, unit, reference, symbols, block, a.splices, position);
-    if found.refusal != refusal::FINE {
-        return SegmentRead::Refused(found.refusal);
-    }
-    whole(a, position as u32, with_clips(found.text, clips))
+    let text = check_pieces(
+        frame, unit, reference, symbols, a.block, a.splices, position,
+    )?;
+    Ok(whole(a, position as u32, with_clips(text, a.block.clips)))
 }
 
 // An unaligned segment.
-pub fn read_unaligned(frame: &[u8], unit: Unit, c: Cursor) -> SegmentRead
+pub fn read_unaligned(frame: &[u8], unit: Unit, c: Cursor) -> Result<(Segment, Cursor), Refusal>
     ensures { result ≡ plain_at unit frame.now c.at }
 {
-    match unaligned::read(frame, unit.alphabet, c) {
-        UnalignedRead::Refused(n) => SegmentRead::Refused(n),
-        UnalignedRead::Whole(u) => {
-            let next = u.next;
-            SegmentRead::Whole(Segment::Unaligned(u), next)
-        }
-    }
+    let u = unaligned::read(frame, unit.alphabet, c)?;
+    Ok((Segment::Unaligned(u), u.next))
 }

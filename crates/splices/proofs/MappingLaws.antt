@@ -7,6 +7,7 @@ use native.Mathlib.Omega.{arith}
 use borrow.Author.Tests.{eqb-true, eqb-false, eq-eqb, ne_eqb}
 use lib.Dec.{ltb, eqb}
 use Rattle.frame.proofs.Tests.{by_test}
+use Rattle.refusal.specs.declared.Refusal.{Refusal}
 use Rattle.unit.specs.Unit.{largest16}
 use Rattle.state.specs.State.{Shaped, taken, raised}
 use Rattle.state.specs.declared.State.{State}
@@ -28,7 +29,7 @@ record NextFound (symbols : List ℕ) (st : State) (position : SignedPosition) (
   pub mapping : mapping_at p middle ≡ following symbols (mapping_at position st) n
   pub shaped : Shaped middle
 
-never : {A : Type 0} {P : Type 0} {n : ℕ} {a : A} {st : State} → ◌≡◌ {A = Came A} (stopped n) (came a st) → P
+never : {A : Type 0} {P : Type 0} {n : Refusal} {a : A} {st : State} → ◌≡◌ {A = Came A} (stopped n) (came a st) → P
 never e = absurd (let z : ◌≡◌ {A = ℕ} 0 1 = cc in omega arith)
 
 module _ (symbols counts : List ℕ) (st : State) (shape : Shaped st) (position : SignedPosition) (n : ℕ) where

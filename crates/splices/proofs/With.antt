@@ -5,51 +5,51 @@ use mathlib.Core.Bool.{cond}
 use Prim.Native.Nat.{ℕ, ◌<◌, ◌≤◌}
 use lib.Dec.{eqb}
 use borrow.Author.Tests.{lt-ltb, le-ltb, eq-eqb, ne_eqb}
-use Rattle.refusal.specs.Numbers.{fine, used_up, code_out, value_out}
+use Rattle.std.specs.Prelude.{Ok, Err}
+use Rattle.refusal.specs.Answers.{OrRefused}
+use Rattle.refusal.specs.declared.Refusal.{Refusal}
+use Rattle.refusal.specs.declared.Refusal.TheVariants.{CodeOut, ValueOut}
 use Rattle.state.specs.declared.State.{State}
 use Rattle.unit.specs.Unit.{largest16}
-use Rattle.taking.specs.declared.NextSymbol.TheVariants.{Symbol, UsedUp}
-use Rattle.taking.specs.declared.Taken.{Taken}
 use Rattle.taking.specs.Steps.{Steps, sets, takes, within16, reserved, decode}
 use Rattle.taking.specs.Take.{take_of}
 use Rattle.edits.specs.Pieces.{SignedPosition}
 use Rattle.splices.specs.Code.Taken.{symbols_moved}
-use Rattle.splices.specs.declared.take.SymbolsMoved.{SymbolsMoved}
 
-module _ (x : SymbolsMoved) (symbols counts : List ℕ) (back st : State) where
+module _ (x : OrRefused State) (symbols counts : List ℕ) (st : State) where
   -- the end of a case
-  pub piece_done : (p : SignedPosition) → x ≡ record { refusal = fine; state = st } → x ≡ symbols_moved back (decode symbols counts st (sets p))
+  pub piece_done : (p : SignedPosition) → x ≡ Ok st → x ≡ symbols_moved (decode symbols counts st (sets p))
   unfolding decode
   piece_done p h = h
 
-  pub piece_reserved : x ≡ record { refusal = code_out; state = back } → x ≡ symbols_moved back (decode {A = SignedPosition} symbols counts st reserved)
+  pub piece_reserved : x ≡ Err CodeOut → x ≡ symbols_moved (decode {A = SignedPosition} symbols counts st reserved)
   unfolding decode
   piece_reserved h = h
 
   -- a symbol that the code took as r
-  module _ (r : Taken) (s v : ℕ) (go_on : ℕ → Steps SignedPosition) (e : r ≡ take_of symbols counts st s) where
-    pub piece_given : r.found ≡ Symbol v → x ≡ symbols_moved back (decode symbols counts r.state (go_on v)) → x ≡ symbols_moved back (decode symbols counts st (takes s go_on))
+  module _ (r : OrRefused (ℕ × State)) (s : ℕ) (go_on : ℕ → Steps SignedPosition) (e : r ≡ take_of symbols counts st s) where
+    pub piece_given : (v : ℕ) (next : State) → r ≡ Ok (v, next) → x ≡ symbols_moved (decode symbols counts next (go_on v)) → x ≡ symbols_moved (decode symbols counts st (takes s go_on))
     unfolding decode
-    piece_given h k = rw (← e, h) k
+    piece_given v next h k = rw (← e, h) k
 
-    pub piece_missing : r.found ≡ UsedUp → x ≡ record { refusal = used_up; state = back } → x ≡ symbols_moved back (decode symbols counts st (takes s go_on))
+    pub piece_missing : (n : Refusal) → r ≡ Err n → x ≡ Err n → x ≡ symbols_moved (decode symbols counts st (takes s go_on))
     unfolding decode
-    piece_missing h k = rw (← e, h) k
+    piece_missing n h k = rw (← e, h) k
 
   -- a value of at most 16 bits, or more
   module _ (v : ℕ) (p : Steps SignedPosition) where
-    pub piece_fits : v ≤ largest16 → x ≡ symbols_moved back (decode symbols counts st p) → x ≡ symbols_moved back (decode symbols counts st (within16 v p))
+    pub piece_fits : v ≤ largest16 → x ≡ symbols_moved (decode symbols counts st p) → x ≡ symbols_moved (decode symbols counts st (within16 v p))
     unfolding decode
     piece_fits h k = rw (le-ltb largest16 v h) k
 
-    pub piece_above : largest16 < v → x ≡ record { refusal = value_out; state = back } → x ≡ symbols_moved back (decode symbols counts st (within16 v p))
+    pub piece_above : largest16 < v → x ≡ Err ValueOut → x ≡ symbols_moved (decode symbols counts st (within16 v p))
     unfolding decode
     piece_above h k = rw (lt-ltb largest16 v h) k
 
   -- a test of two numbers
   module _ (a b : ℕ) (p q : Steps SignedPosition) where
-    pub piece_same : a ≡ b → x ≡ symbols_moved back (decode symbols counts st p) → x ≡ symbols_moved back (decode symbols counts st (cond (eqb a b) p q))
+    pub piece_same : a ≡ b → x ≡ symbols_moved (decode symbols counts st p) → x ≡ symbols_moved (decode symbols counts st (cond (eqb a b) p q))
     piece_same h k = rw (eq-eqb a b h) k
 
-    pub piece_differ : (a ≡ b → ⊥) → x ≡ symbols_moved back (decode symbols counts st q) → x ≡ symbols_moved back (decode symbols counts st (cond (eqb a b) p q))
+    pub piece_differ : (a ≡ b → ⊥) → x ≡ symbols_moved (decode symbols counts st q) → x ≡ symbols_moved (decode symbols counts st (cond (eqb a b) p q))
     piece_differ h k = rw (ne_eqb a b h) k

@@ -17,12 +17,6 @@ pub struct Mapping {
     pub places: usize,
 }
 
-fn wide(v: u32) -> u64
-    ensures { (result ≡ v) × (result < 2 ^ 32) }
-{
-    v as u64
-}
-
 // Symbol k of subsequence s; 0 where the table does not reach so far.
 fn symbol_at(symbols: &[u32], s: usize, k: usize) -> u64
     requires { (s < 8) × (k ≤ 2 ^ 40) }
@@ -32,7 +26,7 @@ fn symbol_at(symbols: &[u32], s: usize, k: usize) -> u64
     if symbols.len() <= at {
         return 0;
     }
-    wide(symbols[at])
+    u64::from(symbols[at])
 }
 
 // By a signed distance, from the piece's end in the read on.

@@ -25,12 +25,6 @@ pub struct PieceWalk {
     pub mapping: Mapping,
 }
 
-fn wide(b: u8) -> u32
-    ensures { (result ≡ b) × (result < 256) }
-{
-    b as u32
-}
-
 // A byte of the frame; 0 behind its end.
 fn byte_at(frame: &[u8], at: usize) -> u32
     ensures { (result ≡ get_or frame.now at 0) × (result < 256) }
@@ -38,7 +32,7 @@ fn byte_at(frame: &[u8], at: usize) -> u32
     if frame.len() <= at {
         return 0;
     }
-    wide(frame[at])
+    u32::from(frame[at])
 }
 
 // The length at a place of the frame; bytes behind the frame's end count as 0.

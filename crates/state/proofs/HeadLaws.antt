@@ -6,7 +6,7 @@ use native.Mathlib.Omega.{arith}
 use mathlib.Core.Path.{◌≡◌, refl, sym, ap, ◌∙◌}
 use mathlib.Core.Bool.{true, false}
 use mathlib.Core.List.{List, [], ◌∷◌, ◌++◌, append_assoc}
-use mathlib.Core.Option.{none, some}
+use Rattle.std.specs.Prelude.{Some, None}
 use lib.ListN.{length, get_or, set, length-append}
 use borrow.Author.Tests.{lt-ltb, le-ltb}
 use Rattle.frame.specs.Hex.{unhex, be}
@@ -80,20 +80,20 @@ state_head number next tail fits each shaped e =
 
 -- what is said, by the tests of the code, where its numbers are the frame's
 module _ (count : ℕ) (counts bs : List ℕ) (n : ℕ) (size : n ≡ length bs) where
-  pub back_short : n < least_listed → none ≡ state_back count counts bs
+  pub back_short : n < least_listed → None ≡ state_back count counts bs
   unfolding state_back
   back_short l = rw (← size, lt-ltb n least_listed l)
 
   module _ (l : least_listed ≤ n) (q : ℕ) (number : q ≡ big_at 2 bs number_place) where
-    pub back_far : count ≤ q → none ≡ state_back count counts bs
+    pub back_far : count ≤ q → None ≡ state_back count counts bs
     unfolding state_back
     back_far h = rw (← size, le-ltb n least_listed l, ← number, le-ltb q count h)
 
     module _ (h : q < count) (s : State) (state : s ≡ state_at bs) where
-      pub back_above : within s counts ≡ false → none ≡ state_back count counts bs
+      pub back_above : within s counts ≡ false → None ≡ state_back count counts bs
       unfolding state_back
       back_above w = rw (← size, le-ltb n least_listed l, ← number, lt-ltb q count h, ← state, w)
 
-      pub back_fits : within s counts ≡ true → some s ≡ state_back count counts bs
+      pub back_fits : within s counts ≡ true → Some s ≡ state_back count counts bs
       unfolding state_back
       back_fits w = rw (← size, le-ltb n least_listed l, ← number, lt-ltb q count h, ← state, w)

@@ -9,9 +9,8 @@ use Rattle.frame.proofs.Unique.{once}
 use Rattle.state.specs.State.{fresh_state, within, all_taken}
 use Rattle.state.specs.Listed.{listed_head, state_back}
 use Rattle.state.specs.Numbers.{state_of, state_into}
-use Rattle.state.specs.Code.Back.{back_of}
+use Rattle.std.specs.Prelude.{Option}
 use Rattle.state.specs.declared.State.{State}
-use Rattle.state.specs.declared.head.Back.{Back}
 
 pub fresh_once : {r r' : State} → r ≡ fresh_state → r' ≡ fresh_state → r ≡ r'
 fresh_once = once
@@ -25,7 +24,7 @@ all_taken_once s counts = once
 pub head_bytes_once : (number : ℕ) (next : State) {r r' : List ℕ} → r ≡ listed_head number next → r' ≡ listed_head number next → r ≡ r'
 head_bytes_once number next = once
 
-pub behind_once : (line : List ℕ) (count : ℕ) (counts : List ℕ) {r r' : Back} → r ≡ back_of (state_back count counts (unhex line)) → r' ≡ back_of (state_back count counts (unhex line)) → r ≡ r'
+pub behind_once : (line : List ℕ) (count : ℕ) (counts : List ℕ) {r r' : Option State} → r ≡ state_back count counts (unhex line) → r' ≡ state_back count counts (unhex line) → r ≡ r'
 behind_once line count counts = once
 
 pub state_read_once : (numbers : List ℕ) {r r' : State} → r ≡ state_of numbers → r' ≡ state_of numbers → r ≡ r'

@@ -1,4 +1,3 @@
 pub mod State
 pub mod Listed
 pub mod Numbers
-pub mod Code

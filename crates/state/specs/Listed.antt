@@ -1,7 +1,7 @@
 -- The 04 lines of a listing: how the state is laid into their head and read back from it, how long they are, and what a record call answers (document 01, The listing and Resuming).
 -- Assumes nothing.
-use Rattle.std.specs.Prelude.{ℕ, zero, suc, ◌+◌, ◌*◌, cond, List, [], ◌∷◌, ◌++◌, ltb, length}
-use Rattle.std.proofs.Math.Option.{Option, none, some}
+use Rattle.std.specs.Prelude.{ℕ, zero, suc, ◌+◌, ◌*◌, cond, List, [], ◌∷◌, ◌++◌, ltb, length, Option, Some, None}
+use Rattle.refusal.specs.declared.Refusal.{Refusal}
 use Rattle.limits.specs.Limits.{most_segments, most_segment_bytes}
 use Rattle.frame.specs.Hex.{be}
 use Rattle.frame.specs.Field.{big_at}
@@ -61,12 +61,12 @@ most_listed = 2 * (least_listed + most_segments * most_segment_bytes)
 -- "an 04 line of at least 28 bytes with a number below the record count and indexes not above the symbol counts": the state behind its record; of any other, none
 unfoldable pub state_back : (count : ℕ) (counts bs : List ℕ) → Option State
 state_back count counts bs =
-    cond (ltb (length bs) least_listed) none
+    cond (ltb (length bs) least_listed) None
     (cond (ltb (big_at 2 bs number_place) count)
-    (cond (within (state_at bs) counts) (some (state_at bs)) none)
-    none)
+    (cond (within (state_at bs) counts) (Some (state_at bs)) None)
+    None)
 
--- what a record call answers: a refusal number, or the 04 line's bytes and the next state
+-- what a record call answers: its refusal, or the 04 line's bytes and the next state
 pub data Step : Type 0 where
-  refused : ℕ → Step
+  refused : Refusal → Step
   accepted : List ℕ → State → Step

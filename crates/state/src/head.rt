@@ -3,7 +3,6 @@ ghost use Rattle.std.specs.Prelude.{◌≡◌, ◌*◌, ◌<◌, ◌≤◌, leng
 ghost use Rattle.frame.specs.Hex.{unhex};
 ghost use Rattle.frame.specs.Field.{big_at};
 ghost use Rattle.state.specs.Listed.{listed_head, least_listed, state_at, state_back};
-ghost use Rattle.state.specs.Code.Back.{no_back, back_of};
 
 use crate::State;
 use crate::listed::ListedLine;
@@ -14,41 +13,17 @@ use unit::kind::Kind;
 pub fn bytes(number: u32, next: State) -> [u8; ListedLine::HEAD]
     ensures { result ≡ listed_head number next }
 {
-    let index = next.index;
     let mut head = [0u8; ListedLine::HEAD];
-    head[0] = (Kind::LISTED % 256) as u8;
-    head[ListedLine::NUMBER] = (number / 256 % 256) as u8;
-    head[ListedLine::NUMBER + 1] = (number % 256) as u8;
-    let mut i: usize = 0;
-    while i < State::INDEXES {
-        head[ListedLine::INDEX + 2 * i] = (index[i] / 256 % 256) as u8;
-        head[ListedLine::INDEX + 2 * i + 1] = (index[i] % 256) as u8;
-        i += 1;
+    head[0] = Kind::LISTED as u8;
+    let [_, _, high, low] = number.to_be_bytes();
+    head[ListedLine::NUMBER] = high;
+    head[ListedLine::NUMBER + 1] = low;
+    for (i, index) in next.index.iter().enumerate() {
+        let [_, _, high, low] = index.to_be_bytes();
+        head[ListedLine::INDEX + 2 * i] = high;
+        head[ListedLine::INDEX + 2 * i + 1] = low;
     }
     head
-}
-
-// Whether an 04 line can be continued, and the state behind its record; a fresh one where it cannot.
-#[derive(Clone, Copy)]
-pub struct Back {
-    pub known: bool,
-    pub state: State,
-}
-
-fn no_back() -> Back
-    ensures { result ≡ no_back }
-{
-    let state = State::fresh();
-    Back {
-        known: false,
-        state,
-    }
-}
-
-fn wide(b: u8) -> u32
-    ensures { result ≡ b }
-{
-    b as u32
 }
 
 // The u16 from byte `at` of the line's frame on.
@@ -56,7 +31,7 @@ fn word_at(line: &[u8], at: usize) -> u32
     requires { at < length line.now }
     ensures { result ≡ big_at 2 (unhex line.now) at }
 {
-    wide(byte_at(line, at)) * 256 + wide(byte_at(line, at + 1))
+    u32::from(byte_at(line, at)) * 256 + u32::from(byte_at(line, at + 1))
 }
 
 // The state behind the record of an 04 line.
@@ -66,28 +41,26 @@ fn state_at(line: &[u8]) -> State
 {
     let number = word_at(line, ListedLine::NUMBER) + 1;
     let mut index = [0u32; State::INDEXES];
-    let mut j: usize = 0;
-    while j < State::INDEXES {
-        index[j] = word_at(line, ListedLine::INDEX + 2 * j);
-        j += 1;
+    for (j, taken) in index.iter_mut().enumerate() {
+        *taken = word_at(line, ListedLine::INDEX + 2 * j);
     }
     State { number, index }
 }
 
-// The state behind the record of an 04 line, lent as its digits, in a unit with so many records and symbols.
-pub fn behind(line: &[u8], count: u32, counts: &[u32]) -> Back
-    ensures { result ≡ back_of (state_back count counts.now (unhex line.now)) }
+// The state behind the record of an 04 line, lent as its digits, in a unit with so many records and symbols; none where it cannot be continued.
+pub fn behind(line: &[u8], count: u32, counts: &[u32]) -> Option<State>
+    ensures { result ≡ state_back count counts.now (unhex line.now) }
 {
     if line.len() / 2 < ListedLine::LEAST {
-        return no_back();
+        return None;
     }
     let number = word_at(line, ListedLine::NUMBER);
     if count <= number {
-        return no_back();
+        return None;
     }
     let state = state_at(line);
     if !state.within(counts) {
-        return no_back();
+        return None;
     }
-    Back { known: true, state }
+    Some(state)
 }

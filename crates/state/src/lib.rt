@@ -41,35 +41,19 @@ impl State {
     pub fn within(self, counts: &[u32]) -> bool
         ensures { result ≡ withinOf self counts.now }
     {
-        let index = self.index;
-        let mut i: usize = 0;
-        while i < State::INDEXES {
-            if counts.len() <= i {
-                return false;
-            }
-            if counts[i] < index[i] {
-                return false;
-            }
-            i += 1;
+        if counts.len() < State::INDEXES {
+            return false;
         }
-        true
+        self.index
+            .iter()
+            .zip(counts)
+            .all(|(taken, count)| taken <= count)
     }
 
     // Every symbol is taken.
     pub fn all_taken(self, counts: &[u32]) -> bool
         ensures { result ≡ all_taken self counts.now }
     {
-        if counts.len() != State::INDEXES {
-            return false;
-        }
-        let index = self.index;
-        let mut j: usize = 0;
-        while j < State::INDEXES {
-            if index[j] != counts[j] {
-                return false;
-            }
-            j += 1;
-        }
-        true
+        self.index.as_slice() == counts
     }
 }

@@ -32,11 +32,7 @@ pub fn read(n: &[u32]) -> State
         return no_state();
     }
     let mut index = [0u32; State::INDEXES];
-    let mut i: usize = 0;
-    while i < State::INDEXES {
-        index[i] = n[i + 1];
-        i += 1;
-    }
+    index.copy_from_slice(&n[1..]);
     State {
         number: n[0],
         index,
@@ -50,11 +46,6 @@ pub fn lay(n: &mut [u32], state: State)
     if n.len() != STATE {
         return;
     }
-    let index = state.index;
     n[0] = state.number;
-    let mut i: usize = 0;
-    while i < State::INDEXES {
-        n[i + 1] = index[i];
-        i += 1;
-    }
+    n[1..].copy_from_slice(&state.index);
 }

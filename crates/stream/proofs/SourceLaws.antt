@@ -6,14 +6,16 @@ use mathlib.Core.Path.{◌≡◌, refl, sym, ap, ◌∙◌}
 use mathlib.Core.Bool.{Bool, true, false, cond}
 use mathlib.Core.List.{List, [], ◌∷◌}
 use lib.Dec.{eqb, leb}
-use Rattle.std.specs.Prelude.{Option}
-use Rattle.std.specs.declared.io.Error.{Error}
+use Rattle.std.proofs.Math.Nat.{sub-zero}
+use Rattle.std.specs.List.{CopiedTo, SameFrom}
+use Rattle.std.specs.declared.ops.Range.{Range}
 use lib.ListN.{length, take, drop, get_or, set, length-set, length-take, length-drop}
 use lib.Seq.{slice, get_or-set_same, get_or-set_other, get_or-take, get_or-drop, ext_get_or, length-take-le, length-slice, take-take, take-add, drop_at}
 use borrow.Author.Tests.{eqb-true, eqb-false, leb-true, leb-false}
 use borrow.Rule.Slice.PartMut.{mid_of, put_mid, mid_len, same_len_mid, take_put}
 use Rattle.refusal.specs.Numbers.{malformed, missing}
-use Rattle.frame.specs.Line.{line_digits, line_end, line_of, line_number}
+use Rattle.frame.specs.Line.{line_digits, line_end, line_of}
+use Rattle.refusal.specs.Answers.{answer_number}
 use Rattle.frame.specs.Next.{ended_by, next_line, next_number}
 use Rattle.frame.specs.declared.line.Next.{Next}
 use Rattle.frame.specs.declared.line.Next.TheVariants.{Whole, TooLong, NoEnd}
@@ -26,7 +28,6 @@ use Rattle.stream.specs.Source.{unreadable, Held, Leads, WaitsFor, bytes_by, lin
 use Rattle.stream.specs.Code.Filling.{Some, Filled, Refilled}
 use Rattle.resuming.specs.declared.pass.Passed.{Passed}
 use Rattle.stream.specs.declared.source.Source.{Source}
-use Rattle.stream.specs.declared.source.LineAt.{LineAt}
 
 -- ---- bytes moved to the front
 
@@ -53,6 +54,15 @@ moved_one {before} {start} {after} {i} m h =
 
     there : (k : ℕ) → k < i + 1 → (k ≡ i → ⊥) → get_or (set after i (get_or after (start + i) 0)) k 0 ≡ get_or before (start + k) 0
     there k g e = get_or-set_other after i k _ 0 e ∙ m.moved k (omega arith)
+
+-- as the library's copy within a list leaves them
+pub moved_copied : {before after : List ℕ} {start n : ℕ} → length after ≡ length before → CopiedTo before after start 0 n → SameFrom before after (0 + n) → Moved before start after n
+moved_copied {before} {after} {start} {n} e copied same =
+    record {
+      long = e;
+      moved = λ k h. copied k 0 (omega arith) (omega arith) ∙ ap (λ j. get_or before (start + j) 0) (sub-zero k);
+      rest = λ k h. same k 0 (omega arith);
+    }
 
 pub moved_all : {before : List ℕ} {start : ℕ} {after : List ℕ} {n : ℕ} → Moved before start after n → start + n ≤ length before
     → take n after ≡ slice start (start + n) before
@@ -146,8 +156,8 @@ refilled {R} {before} {shifted} {after} {s} {m} {r} n h en zero-at at_n moved f 
 -- ---- so many bytes are there, or all that the file has left
 
 module _ (wanted : ℕ) where
-  pub ready_unreadable : {R : Type 0} (buf : List ℕ) (s : Source R) (file : Option R) (cause : Error) {r : Source R} → r ≡ unreadable file cause → (Held (length buf) s → ⊥) → WaitsFor wanted buf s buf r
-  ready_unreadable {R} buf s file cause e bad =
+  pub ready_unreadable : {R : Type 0} (buf : List ℕ) (s : Source R) (file : R) {r : Source R} → r ≡ unreadable file → (Held (length buf) s → ⊥) → WaitsFor wanted buf s buf r
+  ready_unreadable {R} buf s file e bad =
       record {
         held = rw e (record { order = omega arith; inside = omega arith });
         leads = λ h. absurd (bad h);
@@ -220,13 +230,13 @@ no_ends k (x ∷ xs) without h =
 
 -- so many bytes without 0A are no line
 no_line : (s : List ℕ) (m : ℕ) → 0 < m → m ≤ length s → m ≤ line_digits + 1
-    → ((i : ℕ) → i < length (take (line_digits + 1) s) → get_or (take (line_digits + 1) s) i 0 ≡ line_end → ⊥) → line_number (line_of (take m s)) ≡ malformed
-no_line s m some h g none = ap line_number (line_unended line_digits (take m s) (λ e. none (m - 1) (simp length-take (omega arith)) (last e)))
+    → ((i : ℕ) → i < length (take (line_digits + 1) s) → get_or (take (line_digits + 1) s) i 0 ≡ line_end → ⊥) → answer_number (line_of (take m s)) ≡ malformed
+no_line s m some h g none = ap (answer_number {A = ℕ}) (line_unended line_digits (take m s) (λ e. none (m - 1) (simp length-take (omega arith)) (last e)))
   where
     last : get_or (take m s) (length (take m s) - 1) 0 ≡ line_end → get_or (take (line_digits + 1) s) (m - 1) 0 ≡ line_end
     last e = rw (length-take-le m s h, get_or-take m s (m - 1) 0 (omega arith), ← get_or-take (line_digits + 1) s (m - 1) 0 (omega arith)) at e
 
-pub line_refused : (s : List ℕ) → next_number (next_line s) ≡ malformed → line_number (line_of (take (line_bytes s) s)) ≡ malformed
+pub line_refused : (s : List ℕ) → next_number (next_line s) ≡ malformed → answer_number (line_of (take (line_bytes s) s)) ≡ malformed
 unfolding line_bytes next_line
 line_refused s h =
     by_test (eqb (length s) 0)
@@ -260,9 +270,9 @@ line_fits a e n l h g q =
     let w = part_long a e l g in
     omega arith
 
-pub handed_line : {R : Type 0} {before after : List ℕ} {s r : Source R} {t : LineAt R} (n : ℕ) → WaitsFor (line_digits + 1) before s after r → n ≡ line_bytes (take (r.end - r.at) (drop r.at after))
-    → t.from ≡ r.at → t.to ≡ r.at + n → t.source.at ≡ t.to → t.source.end ≡ r.end → t.source.ended ≡ r.ended → HandedLine before s after t
-handed_line {R} {before} {after} {s} {r} {t} n f q from to next end ended =
+pub handed_line : {R : Type 0} {before after : List ℕ} {s r q : Source R} {t : Range ℕ} (n : ℕ) → WaitsFor (line_digits + 1) before s after r → n ≡ line_bytes (take (r.end - r.at) (drop r.at after))
+    → t.start ≡ r.at → t.end ≡ r.at + n → q.at ≡ t.end → q.end ≡ r.end → q.ended ≡ r.ended → HandedLine before s after t q
+handed_line {R} {before} {after} {s} {r} {q} {t} n f is from to next end ended =
     record {
       part =
           record {
@@ -279,13 +289,13 @@ handed_line {R} {before} {after} {s} {r} {t} n f q from to next end ended =
     }
   where
     fits : r.at + n ≤ r.end
-    fits = line_fits r.at r.end n after f.held.order f.held.inside q
+    fits = line_fits r.at r.end n after f.held.order f.held.inside is
 
-    line : t.to ≡ t.from + line_bytes (slice t.from t.source.end after)
-    line = to ∙ simp (from, end, q, part_slice r.at r.end after f.held.order f.held.inside)
+    line : t.end ≡ t.start + line_bytes (slice t.start q.end after)
+    line = to ∙ simp (from, end, is, part_slice r.at r.end after f.held.order f.held.inside)
 
-    part : take (line_bytes (slice t.from t.source.end after)) (slice t.from t.source.end after) ≡ slice t.from t.to after
-    part = rw line (part_front t.from t.source.end _ after (omega (arith, fits, line)) (omega (arith, f.held.inside)))
+    part : take (line_bytes (slice t.start q.end after)) (slice t.start q.end after) ≡ slice t.start t.end after
+    part = rw line (part_front t.start q.end _ after (omega (arith, fits, line)) (omega (arith, f.held.inside)))
 
 -- ---- lines passed over
 

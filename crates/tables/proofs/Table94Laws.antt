@@ -10,7 +10,7 @@ use borrow.Author.Tests.{lt-ltb, le-ltb, lt-leb, le-leb, eq-eqb, ne_eqb, eqb-tru
 use lib.Dec.{ltb, leb, eqb}
 use lib.ListN.{length, take, drop}
 use lib.Seq.{drop-drop, take_all}
-use Rattle.refusal.specs.Numbers.{fine}
+use Rattle.refusal.specs.Answers.{fine}
 use Rattle.frame.proofs.HexLaws.{by_test}
 use Rattle.unit.specs.Unit.{class_p, class_n, class_m, class_i, class_hm}
 use Rattle.alphabet.specs.Table35.{letter_of, size_of}

@@ -9,7 +9,8 @@ use lib.Dec.{ltb, eqb}
 use lib.ListN.{length, get_or}
 use lib.Seq.{set_out}
 use borrow.Author.Tests.{ltb-true, ltb-false, eqb-true, eqb-false}
-use Rattle.refusal.specs.Numbers.{used_up, value_out}
+use Rattle.refusal.specs.declared.Refusal.{Refusal}
+use Rattle.refusal.specs.declared.Refusal.TheVariants.{UsedUp, ValueOut}
 use Rattle.unit.specs.Unit.{largest16}
 use Rattle.state.specs.State.{taken, raised}
 use Rattle.state.specs.declared.State.{State}
@@ -35,7 +36,7 @@ pub then_goes : {A B : Type 0} (symbols counts : List ℕ) (m : Steps A) (f : A 
     → decode symbols counts st (and_then m f) ≡ decode symbols counts next (f a)
 then_goes {A} symbols counts m f st a next e = decode_then symbols counts m f st ∙ ap (λ (x : Came A). after_came x (λ b middle. decode symbols counts middle (f b))) e
 
-pub then_stops : {A B : Type 0} (symbols counts : List ℕ) (m : Steps A) (f : A → Steps B) (st : State) (n : ℕ) → decode symbols counts st m ≡ stopped n
+pub then_stops : {A B : Type 0} (symbols counts : List ℕ) (m : Steps A) (f : A → Steps B) (st : State) (n : Refusal) → decode symbols counts st m ≡ stopped n
     → decode symbols counts st (and_then m f) ≡ stopped n
 then_stops {A} symbols counts m f st n e = decode_then symbols counts m f st ∙ ap (λ (x : Came A). after_came x (λ b middle. decode symbols counts middle (f b))) e
 
@@ -67,9 +68,9 @@ abbrev pub Any : ℕ → Type 0
 Any v = v ≡ v
 
 -- every refusal has the property `told`
-abbrev pub Tells : {A : Type 0} → (ℕ → Type 0) → Steps A → Type 0
+abbrev pub Tells : {A : Type 0} → (Refusal → Type 0) → Steps A → Type 0
 Tells told (sets a) = Unit {0}
-Tells told (takes s go_on) = told used_up × ((v : ℕ) → Tells told (go_on v))
+Tells told (takes s go_on) = told UsedUp × ((v : ℕ) → Tells told (go_on v))
 Tells told (refuses n) = told n
 Tells told (marks go_on) = (here : State) → Tells told (go_on here)
 
@@ -80,9 +81,9 @@ ends_as value end also (takes s go_on) f h = λ v q. ends_as value end also (go_
 ends_as value end also (refuses n) f h = tt
 ends_as value end also (marks go_on) f h = λ here. ends_as value end also (go_on here) f (h here)
 
-pub tells_as : {A : Type 0} (told also : ℕ → Type 0) (p : Steps A) → ((n : ℕ) → told n → also n) → Tells told p → Tells also p
+pub tells_as : {A : Type 0} (told also : Refusal → Type 0) (p : Steps A) → ((n : Refusal) → told n → also n) → Tells told p → Tells also p
 tells_as told also (sets a) f h = tt
-tells_as told also (takes s go_on) f h = (f used_up h.0, λ v. tells_as told also (go_on v) f (h.1 v))
+tells_as told also (takes s go_on) f h = (f UsedUp h.0, λ v. tells_as told also (go_on v) f (h.1 v))
 tells_as told also (refuses n) f h = f n h
 tells_as told also (marks go_on) f h = λ here. tells_as told also (go_on here) f (h here)
 
@@ -94,7 +95,7 @@ then_ends value end (takes s more) f h = λ v q. then_ends value end (more v) f 
 then_ends value end (refuses n) f h = tt
 then_ends value end (marks more) f h = λ here. then_ends value end (more here) f (h here)
 
-pub then_tells : {A B : Type 0} (told : ℕ → Type 0) (m : Steps A) (f : A → Steps B) → Tells told m → ((a : A) → Tells told (f a)) → Tells told (and_then m f)
+pub then_tells : {A B : Type 0} (told : Refusal → Type 0) (m : Steps A) (f : A → Steps B) → Tells told m → ((a : A) → Tells told (f a)) → Tells told (and_then m f)
 unfolding and_then
 then_tells told (sets a) f h k = k a
 then_tells told (takes s more) f h k = (h.0, λ v. then_tells told (more v) f (h.1 v) k)
@@ -105,7 +106,7 @@ then_tells told (marks more) f h k = λ here. then_tells told (more here) f (h h
 pub fits_ends : {A : Type 0} (value : ℕ → Type 0) (end : A → Type 0) (v : ℕ) (rest : Steps A) → (v ≤ largest16 → Ends value end rest) → Ends value end (within16 v rest)
 fits_ends {A} value end v rest h = by_test (λ (p : Steps A). Ends value end p) (ltb largest16 v) _ _ (λ _. tt) (λ l. h (ltb-false _ _ l))
 
-pub fits_tells : {A : Type 0} (told : ℕ → Type 0) (v : ℕ) (rest : Steps A) → told value_out → Tells told rest → Tells told (within16 v rest)
+pub fits_tells : {A : Type 0} (told : Refusal → Type 0) (v : ℕ) (rest : Steps A) → told ValueOut → Tells told rest → Tells told (within16 v rest)
 fits_tells {A} told v rest h k = one_of (λ (p : Steps A). Tells told p) (ltb largest16 v) _ _ h k
 
 -- ---- the state
@@ -165,13 +166,13 @@ module _ (symbols counts : List ℕ) where
   decode_follows (marks go_on) b a next = decode_follows (go_on b) b a next
 
   -- a property of every refusal is one of what is refused
-  pub decode_tells : {A : Type 0} (told : ℕ → Type 0) (p : Steps A) (b : State) → Tells told p → (n : ℕ) → decode symbols counts b p ≡ stopped n → told n
+  pub decode_tells : {A : Type 0} (told : Refusal → Type 0) (p : Steps A) (b : State) → Tells told p → (n : Refusal) → decode symbols counts b p ≡ stopped n → told n
   unfolding decode
   decode_tells told (sets d) b h n = λ e. let z : ◌≡◌ {A = ℕ} 0 1 = cc in absurd (omega arith)
   decode_tells told (takes s go_on) b h n =
       take_cases symbols counts b s
       (λ t. with_symbol t (λ v m. decode symbols counts m (go_on v)) ≡ stopped n → told n)
-      (λ e. let is : used_up ≡ n = cc in rw (← is) h.0)
+      (λ e. let is : UsedUp ≡ n = cc in rw (← is) h.0)
       (λ there. decode_tells told (go_on (symbol_of symbols b s)) (raised b s) (h.1 _) n)
   decode_tells told (refuses m) b h n = λ e. let is : m ≡ n = cc in rw is at h
   decode_tells told (marks go_on) b h n = decode_tells told (go_on b) b (h b) n

@@ -9,9 +9,10 @@ use borrow.Author.Tests.{leb-false}
 pub use Rattle.frame.proofs.Tests.{cond_of as by_test, one_of}
 use Rattle.state.specs.declared.State.{State}
 use Rattle.unit.specs.Pairs.{symbol_place}
-use Rattle.taking.specs.declared.NextSymbol.TheVariants.{Symbol}
-use Rattle.taking.specs.declared.Taken.{Taken}
-use Rattle.taking.specs.Take.{symbol_of, none_left, take_of}
+use Rattle.std.specs.Prelude.{Ok, Err}
+use Rattle.refusal.specs.Answers.{OrRefused}
+use Rattle.refusal.specs.declared.Refusal.TheVariants.{UsedUp}
+use Rattle.taking.specs.Take.{symbol_of, take_of}
 use Rattle.state.specs.State.{index_count, taken, raised}
 
 -- take
@@ -25,7 +26,7 @@ pub record There (symbols counts : List ℕ) (st : State) (s : ℕ) : Type 0 whe
 
 module _ (symbols counts : List ℕ) (st : State) (s : ℕ) where
   -- either nothing is left and nothing changes, or the symbol at the index is taken
-  pub take_cases : (P : Taken → Type 0) → P (none_left st) → (There symbols counts st s → P record { found = Symbol (symbol_of symbols st s); state = raised st s }) → P (take_of symbols counts st s)
+  pub take_cases : (P : OrRefused (ℕ × State) → Type 0) → P (Err UsedUp) → (There symbols counts st s → P (Ok (symbol_of symbols st s, raised st s))) → P (take_of symbols counts st s)
   unfolding take_of
   take_cases P none some =
       by_test P (leb index_count s) _ _ (λ _. none)

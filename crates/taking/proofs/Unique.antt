@@ -6,7 +6,7 @@ use Prim.Native.Nat.{ℕ}
 use Rattle.frame.proofs.Unique.{once}
 use Rattle.state.specs.declared.State.{State}
 use Rattle.taking.specs.Take.{take_of}
-use Rattle.taking.specs.declared.Taken.{Taken}
+use Rattle.refusal.specs.Answers.{OrRefused}
 
-pub take_once : (symbols counts : List ℕ) (st : State) (s : ℕ) {x y : Taken} → x ≡ take_of symbols counts st s → y ≡ take_of symbols counts st s → x ≡ y
+pub take_once : (symbols counts : List ℕ) (st : State) (s : ℕ) {x y : OrRefused (ℕ × State)} → x ≡ take_of symbols counts st s → y ≡ take_of symbols counts st s → x ≡ y
 take_once symbols counts st s p q = once p q

@@ -3,28 +3,28 @@
 -- `reserved` is refusal 6, where a table has no case; `refuses` is any other refusal; `sets` is what they come to; `and_then` goes on with that;
 -- `marks (λ here. ..)` takes nothing and remembers where the next symbols stand.
 -- Assumes nothing.
-use Rattle.std.specs.Prelude.{ℕ, List, cond, ltb}
-use Rattle.refusal.specs.Numbers.{fine, used_up, code_out, value_out}
+use Rattle.std.specs.Prelude.{ℕ, List, cond, ltb, Ok, Err}
+use Rattle.refusal.specs.Numbers.{number_of}
+use Rattle.refusal.specs.Answers.{OrRefused}
+use Rattle.refusal.specs.declared.Refusal.{Refusal}
+use Rattle.refusal.specs.declared.Refusal.TheVariants.{CodeOut, ValueOut}
 use Rattle.unit.specs.Unit.{largest16}
 use Rattle.state.specs.declared.State.{State}
 use Rattle.taking.specs.Take.{take_of}
-use Rattle.taking.specs.declared.NextSymbol.{NextSymbol}
-use Rattle.taking.specs.declared.NextSymbol.TheVariants.{Symbol, UsedUp}
-use Rattle.taking.specs.declared.Taken.{Taken}
 
 pub data Steps (A : Type 0) : Type 0 where
   sets : A → Steps A
   takes : ℕ → (ℕ → Steps A) → Steps A
-  refuses : ℕ → Steps A
+  refuses : Refusal → Steps A
   marks : (State → Steps A) → Steps A
 
 -- a value that must have at most 16 bits (Table 30)
 abbrev pub within16 : {A : Type 0} → ℕ → Steps A → Steps A
-within16 value rest = cond (ltb largest16 value) (refuses value_out) rest
+within16 value rest = cond (ltb largest16 value) (refuses ValueOut) rest
 
 -- no case
 abbrev pub reserved : {A : Type 0} → Steps A
-reserved = refuses code_out
+reserved = refuses CodeOut
 
 -- goes on with what some steps come to
 unfoldable pub and_then : {A B : Type 0} → Steps A → (A → Steps B) → Steps B
@@ -35,29 +35,20 @@ and_then (marks more) go_on = marks (λ here. and_then (more here) go_on)
 
 -- ---- what they come to
 
--- a value and the state behind its symbols, or a refusal number
+-- a value and the state behind its symbols, or a refusal
 pub data Came (A : Type 0) : Type 0 where
   came : A → State → Came A
-  stopped : ℕ → Came A
+  stopped : Refusal → Came A
 
--- document 01's number of what they come to
+-- document 01's number of what they come to: that of the refusal, or 0
 abbrev pub came_number : {A : Type 0} → Came A → ℕ
-came_number (came a next) = fine
-came_number (stopped n) = n
-
--- document 01's number for what a subsequence has: a symbol, or refusal 5
-abbrev pub found_number : NextSymbol → ℕ
-found_number (Symbol v) = fine
-found_number UsedUp = used_up
+came_number (came a next) = 0
+came_number (stopped n) = number_of n
 
 -- goes on with the symbol and the state after it, or refuses
-abbrev pub with_found : {A : Type 0} → NextSymbol → State → (ℕ → State → Came A) → Came A
-with_found (Symbol v) next go_on = go_on v next
-with_found UsedUp next go_on = stopped (found_number UsedUp)
-
--- the same of what was taken
-abbrev pub with_symbol : {A : Type 0} → Taken → (ℕ → State → Came A) → Came A
-with_symbol t go_on = with_found t.found t.state go_on
+abbrev pub with_symbol : {A : Type 0} → OrRefused (ℕ × State) → (ℕ → State → Came A) → Came A
+with_symbol (Ok (v, next)) go_on = go_on v next
+with_symbol (Err n) go_on = stopped n
 
 -- the steps, from a state on
 unfoldable pub decode : {A : Type 0} → (symbols counts : List ℕ) → State → Steps A → Came A

@@ -2,9 +2,10 @@
 -- Assumes nothing.
 use mathlib.Core.Path.{◌≡◌}
 use Prim.Native.Nat.{◌≤◌}
-use native.Mathlib.Omega.{arith}
 use borrow.Author.Tests.{le-ltb}
-use Rattle.refusal.specs.Numbers.{fine, unit_out}
+use Rattle.std.specs.Prelude.{⊤, Err}
+use Rattle.refusal.specs.Answers.{OrRefused, fine}
+use Rattle.refusal.specs.declared.Refusal.TheVariants.{UnitOut}
 use Rattle.frame.proofs.StepLaws.{past_refusal}
 use Rattle.unit.specs.Unit.{class_p, class_u, last_alphabet, most_segments, most_records, most_sequence, least_segments, unit_refusal}
 use Rattle.unit.specs.declared.Unit.{Unit}
@@ -23,7 +24,7 @@ pub record UnitValid (u : Unit) : Type 0 where
 pub valid_is : (u : Unit) → unit_refusal u ≡ fine → UnitValid u
 unfolding unit_refusal
 valid_is u e =
-    let out : unit_out ≡ fine → ⊥ = λ z. omega arith in
+    let out : ◌≡◌ {A = OrRefused ⊤} (Err UnitOut) fine → ⊥ = λ z. cc in
     let a = past_refusal _ out u.class class_p _ e in
     let b = past_refusal _ out class_u u.class _ a.1 in
     let d = past_refusal _ out last_alphabet u.alphabet _ b.1 in

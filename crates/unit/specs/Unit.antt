@@ -1,7 +1,8 @@
 -- The unit's values (document 01, Lines: 01 unit) and refusal 3.
 -- Assumes nothing.
-use Rattle.std.specs.Prelude.{ℕ, cond, eqb, ltb}
-use Rattle.refusal.specs.Numbers.{fine, unit_out}
+use Rattle.std.specs.Prelude.{ℕ, cond, eqb, ltb, ⊤, Err}
+use Rattle.refusal.specs.Answers.{OrRefused, fine}
+use Rattle.refusal.specs.declared.Refusal.TheVariants.{UnitOut}
 use Rattle.unit.specs.declared.Unit.{Unit}
 pub use Rattle.limits.specs.Limits.{most_segments}
 
@@ -54,13 +55,13 @@ unfoldable pub least_segments : ℕ → ℕ
 least_segments class = cond (eqb class class_hm) most_segments 1
 
 -- each field within its values, and AU end not below AU start
-unfoldable pub unit_refusal : Unit → ℕ
+unfoldable pub unit_refusal : Unit → OrRefused ⊤
 unit_refusal u =
-    cond (ltb u.class class_p) unit_out
-    (cond (ltb class_u u.class) unit_out
-    (cond (ltb last_alphabet u.alphabet) unit_out
-    (cond (ltb most_segments u.segments) unit_out
-    (cond (ltb u.segments (least_segments u.class)) unit_out
-    (cond (ltb u.end u.start) unit_out
-    (cond (ltb most_records u.records) unit_out
-    (cond (ltb most_sequence u.sequence) unit_out fine)))))))
+    cond (ltb u.class class_p) (Err UnitOut)
+    (cond (ltb class_u u.class) (Err UnitOut)
+    (cond (ltb last_alphabet u.alphabet) (Err UnitOut)
+    (cond (ltb most_segments u.segments) (Err UnitOut)
+    (cond (ltb u.segments (least_segments u.class)) (Err UnitOut)
+    (cond (ltb u.end u.start) (Err UnitOut)
+    (cond (ltb most_records u.records) (Err UnitOut)
+    (cond (ltb most_sequence u.sequence) (Err UnitOut) fine)))))))

@@ -8,6 +8,7 @@ ghost use Rattle.unit.specs.Unit.{class_p, class_n, class_m, class_i, class_hm, 
 ghost use Rattle.unit.specs.Pairs.{subsequences, most_symbols, table_length};
 
 use limits::Limit;
+use refusal::Refusal;
 
 // The unit line's eight values.
 #[derive(Clone, Copy)]
@@ -82,35 +83,35 @@ impl Unit {
         if class == Unit::HM { Unit::SEGMENTS } else { 1 }
     }
 
-    // Refusal 3 where a field is outside its values, else 0.
-    pub fn refusal(self) -> u32
+    // Whether each field is within its values; 3 where one is not.
+    pub fn check(self) -> Result<(), Refusal>
         ensures { result ≡ unit_refusal self }
     {
         if self.class < Unit::P {
-            return refusal::UNIT_OUT;
+            return Err(Refusal::UnitOut);
         }
         if Unit::U < self.class {
-            return refusal::UNIT_OUT;
+            return Err(Refusal::UnitOut);
         }
         if Unit::ALPHABETS < self.alphabet {
-            return refusal::UNIT_OUT;
+            return Err(Refusal::UnitOut);
         }
         if Unit::SEGMENTS < self.segments {
-            return refusal::UNIT_OUT;
+            return Err(Refusal::UnitOut);
         }
         if self.segments < Unit::least_segments(self.class) {
-            return refusal::UNIT_OUT;
+            return Err(Refusal::UnitOut);
         }
         if self.end < self.start {
-            return refusal::UNIT_OUT;
+            return Err(Refusal::UnitOut);
         }
         if Unit::RECORDS < self.records {
-            return refusal::UNIT_OUT;
+            return Err(Refusal::UnitOut);
         }
         if Unit::LARGEST16 < self.sequence {
-            return refusal::UNIT_OUT;
+            return Err(Refusal::UnitOut);
         }
-        refusal::FINE
+        Ok(())
     }
 }
 

@@ -8,7 +8,7 @@ use Rattle.frame.proofs.Unique.{once}
 use Rattle.writing.specs.Decimal.{decimal}
 use Rattle.writing.specs.Lay.{Laid}
 use Rattle.writing.specs.Whole.{wrote_of, line_into}
-use Rattle.writing.specs.declared.lay.Wrote.{Wrote}
+use Rattle.refusal.specs.Answers.{OrRefused}
 
 pub decimal_len_once : (n : ℕ) {x y : ℕ} → x ≡ length (decimal n) → y ≡ length (decimal n) → x ≡ y
 decimal_len_once n p q = once p q
@@ -18,5 +18,5 @@ pub laid_once : (before : List ℕ) (at : ℕ) (bs : List ℕ) {after after' : L
 laid_once before at bs f g = (once f.to g.to, once f.holds g.holds)
 
 -- `write_line`: the answer and the lent output
-pub write_line_once : (s bs : List ℕ) {x y : Wrote} {after after' : List ℕ} → x ≡ wrote_of s bs → y ≡ wrote_of s bs → after ≡ line_into s bs → after' ≡ line_into s bs → (x ≡ y) × (after ≡ after')
+pub write_line_once : (s bs : List ℕ) {x y : OrRefused ℕ} {after after' : List ℕ} → x ≡ wrote_of s bs → y ≡ wrote_of s bs → after ≡ line_into s bs → after' ≡ line_into s bs → (x ≡ y) × (after ≡ after')
 write_line_once s bs p q f g = (once p q, once f g)

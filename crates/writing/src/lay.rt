@@ -5,13 +5,7 @@ ghost use Rattle.writing.specs.Lay.{Laid};
 ghost use Rattle.writing.specs.Whole.{wrote_of, line_into};
 
 use frame::line::Line;
-
-// What a writer of whole lines answers: the line's bytes, its 0A among them, or too little room.
-#[derive(Clone, Copy)]
-pub enum Wrote {
-    Line(usize),
-    NoRoom,
-}
+use refusal::Refusal;
 
 fn digit_of(n: u8) -> u8
     requires { n < 16 }
@@ -60,28 +54,26 @@ pub fn put_bytes(out: &mut [u8], at: usize, bytes: &[u8]) -> usize
     ensures { Laid out.old out.new at result bytes.now }
 {
     let mut next = at;
-    let mut i = 0;
-    while i < bytes.len() {
-        next = put_byte(out, next, bytes[i]);
-        i += 1;
+    for &b in bytes {
+        next = put_byte(out, next, b);
     }
     next
 }
 
-// A whole line at the front of what is lent, or nothing.
-pub fn write_line(out: &mut [u8], bytes: &[u8]) -> Wrote
+// A whole line at the front of what is lent: its bytes, its 0A among them; 17, and nothing is laid, where there is too little room.
+pub fn write_line(out: &mut [u8], bytes: &[u8]) -> Result<usize, Refusal>
     ensures value { result ≡ wrote_of out.old bytes.now }
     ensures out_after { out.new ≡ line_into out.old bytes.now }
 {
     let half = out.len() / 2;
     if half < bytes.len() {
-        return Wrote::NoRoom;
+        return Err(Refusal::NoRoom);
     }
     let digits = 2 * bytes.len();
     if out.len() == digits {
-        return Wrote::NoRoom;
+        return Err(Refusal::NoRoom);
     }
     let end = put_bytes(out, 0, bytes);
     out[end] = Line::END;
-    Wrote::Line(end + 1)
+    Ok(end + 1)
 }

@@ -1,8 +1,9 @@
 -- For the code, not for the reader.
 -- What the private functions under a match promise, and how far a pointer can come.
 -- Assumes nothing.
-use Rattle.std.specs.Prelude.{ℕ, zero, suc, ◌+◌, ◌-◌, cond, List, ltb, leb, get_or}
-use Rattle.refusal.specs.Numbers.{fine, symbol_out}
+use Rattle.std.specs.Prelude.{ℕ, zero, suc, ◌+◌, ◌-◌, cond, List, ltb, leb, get_or, ⊤, Err}
+use Rattle.refusal.specs.Answers.{OrRefused, fine}
+use Rattle.refusal.specs.declared.Refusal.TheVariants.{SymbolOut}
 use Rattle.alphabet.specs.Table35.{size_of}
 
 -- ---- Figure 5: a run of positions is padding, lent bases and padding
@@ -25,10 +26,10 @@ highest most symbols at zero = most
 highest most symbols at (suc n) = highest (higher most (get_or symbols at 0)) symbols (at + 1) n
 
 -- refusal 10 of n symbols, from a place on
-unfoldable pub symbols_refusal : (alphabet : ℕ) (symbols : List ℕ) (at n : ℕ) → ℕ
+unfoldable pub symbols_refusal : (alphabet : ℕ) (symbols : List ℕ) (at n : ℕ) → OrRefused ⊤
 symbols_refusal alphabet symbols at zero = fine
 symbols_refusal alphabet symbols at (suc n) =
-    cond (leb (size_of alphabet) (get_or symbols at 0)) symbol_out (symbols_refusal alphabet symbols (at + 1) n)
+    cond (leb (size_of alphabet) (get_or symbols at 0)) (Err SymbolOut) (symbols_refusal alphabet symbols (at + 1) n)
 
 -- no pointer R comes so far: it starts at 32 bits, and at most 2 ^ 32 edits move it by at most 2 ^ 16 each
 abbrev pub farthest : ℕ

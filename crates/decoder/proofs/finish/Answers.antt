@@ -3,4 +3,6 @@ use Rattle.decoder.proofs.TurnLaws.{finish_told}
 use Rattle.decoder.proofs.finish.Goals as goal
 
 pub returns : goal.returns
-returns c = record { value = (finish_told _ _ _ c.requires (c.write_done-wrote.ensures.value, c.write_done-wrote.ensures.out_after) c.stopped.ensures).0; out_after = (finish_told _ _ _ c.requires (c.write_done-wrote.ensures.value, c.write_done-wrote.ensures.out_after) c.stopped.ensures).1 }
+returns c =
+    let seen = finish_told _ _ _ c.requires (c.write_done-wrote.ensures.value, c.write_done-wrote.ensures.out_after) c.stopped.ensures in
+    record { value = seen.0; out_after = seen.1 }

@@ -3,10 +3,16 @@ use Rattle.decoder.proofs.TurnLaws.{last_behind, last_done, last_left}
 use Rattle.decoder.proofs.last_turn.Goals as goal
 
 pub returns-then-line-ne0 : goal.returns-then-line-ne0
-returns-then-line-ne0 c = record { value = (last_behind _ _ _ _ _ c.if-line-ne0.true (c.refuse.ensures.value, c.refuse.ensures.out_after)).0; out_after = (last_behind _ _ _ _ _ c.if-line-ne0.true (c.refuse.ensures.value, c.refuse.ensures.out_after)).1 }
+returns-then-line-ne0 c =
+    let seen = last_behind _ _ _ _ _ c.if-line-ne0.true (c.refuse.ensures.value, c.refuse.ensures.out_after) in
+    record { value = seen.0; out_after = seen.1 }
 
 pub returns-then-all_taken : goal.returns-then-all_taken
-returns-then-all_taken c = record { value = (last_done _ _ _ _ _ _ c.all_taken.ensures c.if-line-ne0.false c.if-all_taken.true (c.finish.ensures.value, c.finish.ensures.out_after)).0; out_after = (last_done _ _ _ _ _ _ c.all_taken.ensures c.if-line-ne0.false c.if-all_taken.true (c.finish.ensures.value, c.finish.ensures.out_after)).1 }
+returns-then-all_taken c =
+    let seen = last_done _ _ _ _ _ _ c.all_taken.ensures c.if-line-ne0.false c.if-all_taken.true (c.finish.ensures.value, c.finish.ensures.out_after) in
+    record { value = seen.0; out_after = seen.1 }
 
 pub returns : goal.returns
-returns c = record { value = (last_left _ _ _ _ _ _ c.all_taken.ensures c.if-line-ne0.false c.if-all_taken.false (c.refuse-2.ensures.value, c.refuse-2.ensures.out_after)).0; out_after = (last_left _ _ _ _ _ _ c.all_taken.ensures c.if-line-ne0.false c.if-all_taken.false (c.refuse-2.ensures.value, c.refuse-2.ensures.out_after)).1 }
+returns c =
+    let seen = last_left _ _ _ _ _ _ c.all_taken.ensures c.if-line-ne0.false c.if-all_taken.false (c.refuse-2.ensures.value, c.refuse-2.ensures.out_after) in
+    record { value = seen.0; out_after = seen.1 }

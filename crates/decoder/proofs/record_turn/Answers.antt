@@ -4,10 +4,16 @@ use borrow.Author.Rules.{rules}
 use Rattle.decoder.proofs.record_turn.Goals as goal
 
 pub returns-then-line-eq0 : goal.returns-then-line-eq0
-returns-then-line-eq0 c = record { value = (record_missing _ _ _ _ _ _ _ c.if-line-eq0.true (c.refuse.ensures.value, c.refuse.ensures.out_after)).0; out_after = (record_missing _ _ _ _ _ _ _ c.if-line-eq0.true (c.refuse.ensures.value, c.refuse.ensures.out_after)).1 }
+returns-then-line-eq0 c =
+    let seen = record_missing _ _ _ _ _ _ _ c.if-line-eq0.true (c.refuse.ensures.value, c.refuse.ensures.out_after) in
+    record { value = seen.0; out_after = seen.1 }
 
-pub returns-in-Listed : goal.returns-in-Listed
-returns-in-Listed c = record { value = (turn_listed _ _ _ _ _ _ _ c.if-line-eq0.false (search rules) (search rules) c.requires (c.record-r.ensures.value, c.record-r.ensures.out_after) _ c.in-Listed.is).0; out_after = (turn_listed _ _ _ _ _ _ _ c.if-line-eq0.false (search rules) (search rules) c.requires (c.record-r.ensures.value, c.record-r.ensures.out_after) _ c.in-Listed.is).1 }
+pub returns-in-Ok : goal.returns-in-Ok
+returns-in-Ok c =
+    let seen = turn_listed _ _ _ _ _ _ _ c.if-line-eq0.false (search rules) (search rules) c.requires (c.record-r.ensures.value, c.record-r.ensures.out_after) _ c.in-Ok.is in
+    record { value = seen.0; out_after = seen.1 }
 
-pub returns-in-Refused : goal.returns-in-Refused
-returns-in-Refused c = record { value = (turn_refused _ _ _ _ _ _ _ c.if-line-eq0.false (search rules) (search rules) c.requires (c.record-r.ensures.value, c.record-r.ensures.out_after) _ c.in-Refused.is (c.refuse-in-Refused.ensures.value, c.refuse-in-Refused.ensures.out_after)).0; out_after = (turn_refused _ _ _ _ _ _ _ c.if-line-eq0.false (search rules) (search rules) c.requires (c.record-r.ensures.value, c.record-r.ensures.out_after) _ c.in-Refused.is (c.refuse-in-Refused.ensures.value, c.refuse-in-Refused.ensures.out_after)).1 }
+pub returns-in-Err : goal.returns-in-Err
+returns-in-Err c =
+    let seen = turn_refused _ _ _ _ _ _ _ c.if-line-eq0.false (search rules) (search rules) c.requires (c.record-r.ensures.value, c.record-r.ensures.out_after) _ c.in-Err.is (c.refuse-in-Err.ensures.value, c.refuse-in-Err.ensures.out_after) in
+    record { value = seen.0; out_after = seen.1 }

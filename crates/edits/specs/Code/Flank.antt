@@ -1,8 +1,9 @@
 -- For the code, not for the reader.
 -- What is kept from edit to edit to say whether each deletion is flanked: `flank_on` and `flank_end_lem` (proofs/FlankLaws) show that it comes to `flank_refusal`.
 -- Assumes nothing.
-use Rattle.std.specs.Prelude.{ℕ, ◌-◌, Bool, false, cond, ◌&&◌, List, ltb, eqb}
-use Rattle.refusal.specs.Numbers.{fine, offset_out}
+use Rattle.std.specs.Prelude.{ℕ, ◌-◌, Bool, false, cond, ◌&&◌, List, ltb, eqb, ⊤, Err}
+use Rattle.refusal.specs.Answers.{OrRefused, fine}
+use Rattle.refusal.specs.declared.Refusal.TheVariants.{OffsetOut}
 use Rattle.frame.specs.Steps.{unless}
 use Rattle.edits.specs.Edits.{insertion, deletion}
 use Rattle.edits.specs.Flanks.{some_base, each_deletion}
@@ -33,15 +34,15 @@ unfoldable pub flank_past : Flank → (next : ℕ) → Edit → Flank
 flank_past f next e = cond (ltb next e.offset) (flank_of (past_base f) e.kind) (flank_of f e.kind)
 
 -- behind the last edit, with the match behind it where there is one: of a deletion that waits for a base behind it
-unfoldable pub open_end : (next mapped : ℕ) → ℕ
-open_end next mapped = unless (ltb next mapped) offset_out fine
+unfoldable pub open_end : (next mapped : ℕ) → OrRefused ⊤
+open_end next mapped = unless (ltb next mapped) (Err OffsetOut) fine
 
 -- and in all
-abbrev pub flank_end : Flank → (next mapped : ℕ) → ℕ
+abbrev pub flank_end : Flank → (next mapped : ℕ) → OrRefused ⊤
 flank_end Before next mapped = fine
 flank_end Based next mapped = fine
 flank_end Open next mapped = open_end next mapped
-flank_end Bare next mapped = offset_out
+flank_end Bare next mapped = Err OffsetOut
 
 -- each deletion that is left has a base behind it
 abbrev pub backed : (mapped : ℕ) → List Edit → Bool

@@ -1,5 +1,6 @@
--- `found::scan` is safe and ends. The measure is the number of turns that are left. Assumes nothing.
+-- `found::scan` is safe. Assumes nothing.
+use Rattle.std.proofs.Common.{◌≡◌, length}
 use Rattle.found.proofs.scan.Given as goal
 
-abbrev pub decreases-loop-turns : goal.decreases-loop-turns
-decreases-loop-turns l = l.turns
+abbrev pub invariant-loop : goal.invariant-loop
+invariant-loop l = length l.buf ≡ length l.fn.buf

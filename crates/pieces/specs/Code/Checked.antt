@@ -1,11 +1,11 @@
 -- For the code, not for the reader.
 -- What the check of a read's pieces answers, and what it leaves for their writing.
 -- Assumes nothing.
-use Rattle.std.specs.Prelude.{ℕ, ◌+◌, ◌-◌, ◌*◌, ◌≤◌, ◌≡◌, false, cond, List, [], ◌∷◌, ◌++◌, eqb, length}
-use Rattle.refusal.specs.Numbers.{fine}
+use Rattle.std.specs.Prelude.{ℕ, ◌+◌, ◌-◌, ◌*◌, ◌^◌, ◌≤◌, ◌≡◌, false, cond, List, [], ◌∷◌, ◌++◌, eqb, length, ⊤, Ok, Err}
+use Rattle.refusal.specs.Answers.{OrRefused, checked}
 use Rattle.unit.specs.declared.Unit.{Unit}
 use Rattle.alphabet.specs.Table35.{size_of}
-use Rattle.limits.specs.Limits.{most_read, most_edits, most_pieces}
+use Rattle.limits.specs.Limits.{most_read, most_edits, most_splice, most_pieces}
 use Rattle.edits.specs.Edits.{width_of}
 use Rattle.edits.specs.Code.Runs.{substitutes_only}
 use Rattle.edits.specs.Lengths.{mapped_length}
@@ -22,7 +22,6 @@ use Rattle.ecigar.specs.Table90.{Operation, print_all}
 use Rattle.ecigar.specs.Spliced.{splice_of, splice_length, piece_operations}
 use Rattle.pieces.specs.Placed.{least_behind, placed_piece, pieces_refusal}
 use Rattle.pieces.specs.declared.check.PieceFound.{PieceFound}
-use Rattle.pieces.specs.declared.check.PiecesFound.{PiecesFound}
 
 -- ---- the text, from a piece on
 
@@ -53,19 +52,18 @@ text_behind alphabet least (p ∷ ps) = text_of_piece alphabet least p + text_be
 abbrev pub run_here : PieceWalk → Run
 run_here w = record { mapped = w.until; edits = w.edits; edits_at = w.edits_at }
 
--- a refusal
-abbrev pub piece_refused : (n : ℕ) → PieceFound
-piece_refused n = record { refusal = n; end = 0; text = 0 }
-
 -- of one piece: the position behind it and the length of its text, or its refusal
-unfoldable pub piece_found : Unit → (reference : List ℕ) (least : ℕ) → Piece → PieceFound
-piece_found u reference least p =
-    cond (eqb (placed_piece u reference least p) fine) (record { refusal = fine; end = end_of p; text = text_of_piece u.alphabet least p }) (piece_refused (placed_piece u reference least p))
+unfoldable pub piece_found : Unit → (reference : List ℕ) (least : ℕ) → Piece → OrRefused PieceFound
+piece_found u reference least p = checked (placed_piece u reference least p) (Ok record { end = end_of p; text = text_of_piece u.alphabet least p })
+
+-- how far an accepted piece reaches, and how long its text can be
+abbrev pub Within : OrRefused PieceFound → Type 0
+Within (Ok found) = (found.text ≤ 2 * most_read + 2 * most_edits + most_splice) × (found.end ≤ 2 ^ 33)
+Within (Err refusal) = ⊤
 
 -- of the pieces from one on, behind so much text: the length of it all, or the first refusal
-unfoldable pub pieces_found : Unit → (reference : List ℕ) (text least : ℕ) → List Piece → PiecesFound
-pieces_found u reference text least ps =
-    cond (eqb (pieces_refusal u reference least ps) fine) (record { refusal = fine; text = text + text_behind u.alphabet least ps }) (record { refusal = pieces_refusal u reference least ps; text = 0 })
+unfoldable pub pieces_found : Unit → (reference : List ℕ) (text least : ℕ) → List Piece → OrRefused ℕ
+pieces_found u reference text least ps = checked (pieces_refusal u reference least ps) (Ok (text + text_behind u.alphabet least ps))
 
 -- ---- what the code asks for
 

@@ -1,10 +1,9 @@
 -- For the code, not for the reader.
 -- A reading place: the frame and how many of its bytes are read.
 -- Assumes nothing.
-use Rattle.std.specs.Prelude.{List, ℕ}
+use Rattle.std.specs.Prelude.{List, ℕ, Ok, Err}
 use Rattle.std.specs.Borrow.{Bor}
-use Rattle.frame.specs.declared.field.Field.{Field}
-use Rattle.frame.specs.declared.field.Field.TheVariants.{Value, Short}
+use Rattle.frame.specs.Field.{Field}
 use Rattle.reader.specs.declared.Reader.{Reader}
 use Rattle.reader.specs.declared.Width.{Width}
 use Rattle.reader.specs.declared.Width.TheVariants.{U8, U16, U32}
@@ -17,8 +16,8 @@ width_bytes U32 = 4
 
 -- the place behind a field, or the place as it was
 abbrev pub behind : Field → ℕ → ℕ
-behind (Value v c) at = c.at
-behind Short at = at
+behind (Ok (v, c)) at = c.at
+behind (Err refusal) at = at
 
 -- a frame, of which nothing is read
 abbrev pub at_front : Bor (List ℕ) → Reader

@@ -4,18 +4,11 @@
 use Rattle.std.specs.Prelude.{ℕ, ◌<◌, ◌≤◌, ◌≡◌, false, List, length, take}
 use Rattle.stream.specs.Source.{Held, Leads}
 use Rattle.stream.specs.declared.source.Source.{Source}
-use Rattle.stream.specs.declared.source.Got.{Got}
-use Rattle.stream.specs.declared.source.Got.TheVariants.{Bytes, End, Failed}
 
--- what one read brought into n places: where it is bytes, at least one
+-- what one read brought into n places, where it is not the file's end: at least a byte
 pub record Some (n k : ℕ) : Type 0 where
   pub more : 0 < k
   pub inside : k ≤ n
-
-abbrev pub WithinAsked : ℕ → Got → Type 0
-WithinAsked n (Bytes k) = Some n k
-WithinAsked n End = Unit
-WithinAsked n (Failed e) = Unit
 
 -- bytes are read behind those that wait, up to the file's end or the buffer's
 pub record Filled {R : Type 0} (before : List ℕ) (s : Source R) (after : List ℕ) (r : Source R) : Type 0 where

@@ -17,7 +17,7 @@ unfolding take_of
 returns-then-n-k c = search (le-leb, lt-leb)
 
 pub overflow_add-at : goal.overflow_add-at
-overflow_add-at c = omega (arith, c.shared_slice_known-3-1.given c.args.s)
+overflow_add-at c = omega (arith, c.shared_slice_known-1.given c.args.s)
 
 pub returns-then-symbols-at : goal.returns-then-symbols-at
 unfolding take_of
@@ -25,7 +25,7 @@ returns-then-symbols-at c = search (le-leb, lt-leb)
 
 pub overflow_add-next : goal.overflow_add-next
 overflow_add-next c =
-    omega (arith, c.shared_slice_known-3-1.given c.args.s)
+    omega (arith, c.shared_slice_known-1.given c.args.s)
 
 pub returns : goal.returns
 unfolding take_of

@@ -1,13 +1,6 @@
--- `alphabet::letter::place_of` meets its contract. Assumes nothing.
-use native.Mathlib.Omega.{arith}
-use borrow.Author.Tests.{le-ltb, lt-ltb}
-use Rattle.alphabet.specs.Code.Digits.{place_of}
+-- `alphabet::letter::place_of` meets its contract, `place_min`. Assumes nothing.
+use Rattle.alphabet.proofs.AlphabetLaws.{place_min}
 use Rattle.alphabet.proofs.letter.place_of.Goals as goal
 
-pub returns-then-symbol-lt16 : goal.returns-then-symbol-lt16
-unfolding place_of
-returns-then-symbol-lt16 c = simp (lt-ltb c.args.symbol 16 (omega arith))
-
 pub returns : goal.returns
-unfolding place_of
-returns c = simp (le-ltb c.args.symbol 16 (omega arith))
+returns c = rw (c.from.ensures, c.min.ensures, place_min)

@@ -1,7 +1,5 @@
 -- `alphabet::letter::put_letter` meets its contract: a place of the table and the next one are inside it. Assumes nothing.
-use mathlib.Core.Path.{refl}
 use native.Mathlib.Omega.{arith}
-use lib.ListN.{length-set}
 use Rattle.alphabet.proofs.AlphabetLaws.{place_most}
 use Rattle.alphabet.proofs.letter.put_letter.Goals as goal
 
@@ -10,9 +8,3 @@ bounds-table-place c = omega (arith, c.place_of-place.ensures, place_most c.args
 
 pub bounds-table-place-2 : goal.bounds-table-place-2
 bounds-table-place-2 c = omega (arith, c.place_of-place.ensures, place_most c.args.symbol)
-
-pub bounds-out-at-2 : goal.bounds-out-at-2
-bounds-out-at-2 c = simp length-set (omega arith)
-
-pub returns : goal.returns
-returns c = record { value = refl; out_after = rw c.place_of-place.ensures }

@@ -3,8 +3,8 @@ use borrow.Author.Tests.{le-leb, lt-leb}
 use Rattle.bases.proofs.ReferenceLaws.{symbols_highest}
 use Rattle.bases.proofs.lent.check_lent.Goals as goal
 
-pub returns-then-size-wide : goal.returns-then-size-wide
-returns-then-size-wide c = rw (symbols_highest, ← c.highest.ensures, ← c.size.ensures, ← c.wide.ensures, le-leb _ _ c.if-size-wide.true)
+pub returns-then-size-from : goal.returns-then-size-from
+returns-then-size-from c = rw (symbols_highest, ← c.highest.ensures, ← c.size.ensures, ← c.from.ensures, le-leb _ _ c.if-size-from.true)
 
 pub returns : goal.returns
-returns c = rw (symbols_highest, ← c.highest.ensures, ← c.size.ensures, ← c.wide.ensures, lt-leb _ _ c.if-size-wide.false)
+returns c = rw (symbols_highest, ← c.highest.ensures, ← c.size.ensures, ← c.from.ensures, lt-leb _ _ c.if-size-from.false)

@@ -4,7 +4,7 @@ use Rattle.bases.proofs.ReferenceLaws.{window_split, match_split}
 use Rattle.bases.proofs.lent.check_range.Goals as goal
 
 pub check_lent-requires : goal.check_lent-requires
-check_lent-requires c = (window_split _ _ _ _ refl refl c.lent_before-start.ensures c.lent_before-end.ensures).room
+check_lent-requires c = let s = window_split _ _ _ _ refl refl c.lent_before-start.ensures c.lent_before-end.ensures in (s.order, s.room)
 
 pub returns : goal.returns
 returns c = c.check_lent.ensures ∙ sym (match_split _ _ _ _ _ (window_split _ _ _ _ refl refl c.lent_before-start.ensures c.lent_before-end.ensures))

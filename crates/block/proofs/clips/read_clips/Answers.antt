@@ -1,41 +1,34 @@
 -- `block::clips::read_clips` meets its contract: each step of the definition follows from what was read. Assumes nothing.
-use native.Mathlib.Omega.{arith}
-use Rattle.frame.proofs.FieldLaws.{value_fits}
+use mathlib.Core.Path.{refl}
+use Rattle.std.proofs.lemmas.Result.{err_from_is_err_and}
 use Rattle.frame.proofs.StepLaws.{value, ended}
 use Rattle.block.specs.Clips.{clips_at}
 use Rattle.block.proofs.clips.read_clips.Goals as goal
 
-pub returns-in_default : goal.returns-in_default
+pub returns-in_err-left_soft : goal.returns-in_err-left_soft
 unfolding clips_at
-returns-in_default c = search (value, ended)
+returns-in_err-left_soft c =
+    let p = err_from_is_err_and c.from_residual.result c.from_residual.ensures.1 in
+    rw (p.1, p.2) (ended _ _ _ _ _ _ c.read_u16.ensures.0 c.in_err-left_soft.was refl)
 
-pub returns-in_default-read_u16 : goal.returns-in_default-read_u16
+pub returns-in_err-left_hard : goal.returns-in_err-left_hard
 unfolding clips_at
-returns-in_default-read_u16 c = search (value, ended)
+returns-in_err-left_hard c =
+    let p = err_from_is_err_and c.from_residual-in_err-left_hard.result c.from_residual-in_err-left_hard.ensures.1 in
+    rw (p.1, p.2) (value _ _ _ _ _ _ _ c.read_u16.ensures.0 c.in_ok-left_soft.was (ended _ _ _ _ _ _ c.read_u16-2.ensures.0 c.in_err-left_hard.was refl))
 
-pub returns-in_default-read_u16-2 : goal.returns-in_default-read_u16-2
+pub returns-in_err-right_soft : goal.returns-in_err-right_soft
 unfolding clips_at
-returns-in_default-read_u16-2 c = search (value, ended)
+returns-in_err-right_soft c =
+    let p = err_from_is_err_and c.from_residual-in_err-right_soft.result c.from_residual-in_err-right_soft.ensures.1 in
+    rw (p.1, p.2) (value _ _ _ _ _ _ _ c.read_u16.ensures.0 c.in_ok-left_soft.was (value _ _ _ _ _ _ _ c.read_u16-2.ensures.0 c.in_ok-left_hard.was (ended _ _ _ _ _ _ c.read_u16-3.ensures.0 c.in_err-right_soft.was refl)))
 
-pub returns-in_default-read_u16-3 : goal.returns-in_default-read_u16-3
+pub returns-in_err-right_hard : goal.returns-in_err-right_hard
 unfolding clips_at
-returns-in_default-read_u16-3 c = search (value, ended)
-
-pub overflow_cast-clips : goal.overflow_cast-clips
-overflow_cast-clips c =
-    omega (arith, value_fits 2 _ _ c.read_u16.ensures.1 c.in-Value.is)
-
-pub overflow_cast-clips-2 : goal.overflow_cast-clips-2
-overflow_cast-clips-2 c =
-    omega (arith, value_fits 2 _ _ c.read_u16-2.ensures.1 c.in-Value-read_u16.is)
-
-pub overflow_cast-clips-3 : goal.overflow_cast-clips-3
-overflow_cast-clips-3 c =
-    omega (arith, value_fits 2 _ _ c.read_u16-3.ensures.1 c.in-Value-read_u16-2.is)
-
-pub overflow_cast-clips-4 : goal.overflow_cast-clips-4
-overflow_cast-clips-4 c = omega (arith, value_fits 2 _ _ c.read_u16-4.ensures.1 c.in-Value-read_u16-3.is)
+returns-in_err-right_hard c =
+    let p = err_from_is_err_and c.from_residual-in_err-right_hard.result c.from_residual-in_err-right_hard.ensures.1 in
+    rw (p.1, p.2) (value _ _ _ _ _ _ _ c.read_u16.ensures.0 c.in_ok-left_soft.was (value _ _ _ _ _ _ _ c.read_u16-2.ensures.0 c.in_ok-left_hard.was (value _ _ _ _ _ _ _ c.read_u16-3.ensures.0 c.in_ok-right_soft.was (ended _ _ _ _ _ _ c.read_u16-4.ensures.0 c.in_err-right_hard.was refl))))
 
 pub returns : goal.returns
 unfolding clips_at
-returns c = search (value, ended)
+returns c = value _ _ _ _ _ _ _ c.read_u16.ensures.0 c.in_ok-left_soft.was (value _ _ _ _ _ _ _ c.read_u16-2.ensures.0 c.in_ok-left_hard.was (value _ _ _ _ _ _ _ c.read_u16-3.ensures.0 c.in_ok-right_soft.was (value _ _ _ _ _ _ _ c.read_u16-4.ensures.0 c.in_ok-right_hard.was (c.within.ensures))))

@@ -1,67 +1,28 @@
--- `ecigar::check::check_edits` meets its contract. The loop's invariant: the check of the edits that are left, from here, comes to what the whole comes to, and so does what was kept of the deletions. Assumes nothing.
+-- `ecigar::check::check_edits` meets its contract: the walk comes to what the edits come to, `walked_read`, and stays within its bounds, `walked_within`. Assumes nothing.
 use native.Mathlib.Omega.{arith}
 use mathlib.Core.Path.{refl, sym, ◌∙◌}
-use Rattle.ecigar.proofs.CheckLaws.{check_start, check_short, check_out, check_on, flanking_start, flanking_on, read_refused, read_end, within_on}
-use Rattle.edits.proofs.EditLaws.{edit_accepted}
-use mathlib.Core.Logic.{inl}
-use borrow.Author.Tests.{ltb-false}
+use Rattle.std.proofs.lemmas.Result.{err_from_is_err_and}
+use Rattle.ecigar.specs.Code.Tally.{after_read}
+use Rattle.ecigar.proofs.CheckLaws.{check_start, flanking_start, within_start, walked_within, walked_read}
 use Rattle.ecigar.proofs.check.check_edits.Goals as goal
 
-pub loop-left-init : goal.loop-left-init
-loop-left-init c =
-    let t = c.start_at-t.ensures in
-    (rw t record { next = omega arith; run = omega arith; begun = inl refl; taken = omega arith; text = omega arith }, (check_start _ _ _ _ _ _ _ _ t, flanking_start _ _ _ _ _ _ _ t))
+pub returns-in_err-t : goal.returns-in_err-t
+returns-in_err-t c =
+    let p = err_from_is_err_and c.from_residual.result c.from_residual.ensures.1 in
+    rw (p.1, p.2, walked_read _ _ _ _ _ _ _ _ _ _ (check_start _ _ _ _ 0 _ _ _ refl) (flanking_start _ _ _ _ _ _ _ refl), ← c.walk_edits.ensures, c.in_err-t.was) refl
 
-pub returns-then-ends_within : goal.returns-then-ends_within
-returns-then-ends_within c =
-    let told = check_short _ _ _ _ _ _ _ _ _ c.width-step.ensures c.size-symbols.ensures c.loop-left-test.true (sym c.if-ends_within.true ∙ c.ends_within.ensures) in
-    sym (read_refused _ _ _ _ _ _ _ (sym c.loop-left.invariant.1.0 ∙ told))
+pub returns-in_err-check : goal.returns-in_err-check
+unfolding after_read
+returns-in_err-check c =
+    let p = err_from_is_err_and c.from_residual-in_err-check.result c.from_residual-in_err-check.ensures.1 in
+    rw (p.1, p.2, walked_read _ _ _ _ _ _ _ _ _ _ (check_start _ _ _ _ 0 _ _ _ refl) (flanking_start _ _ _ _ _ _ _ refl), ← c.walk_edits.ensures, c.in_ok-t.was, ← c.check.ensures, c.in_err-check.was) refl
 
-pub edit_at-e-requires : goal.edit_at-e-requires
-edit_at-e-requires c =
-    rw (← c.width-step.ensures) (ltb-false _ _ (sym c.ends_within.ensures ∙ c.if-ends_within.false))
-
-pub returns-then-no-ne-FINE : goal.returns-then-no-ne-FINE
-returns-then-no-ne-FINE c =
-    let wide = c.width-step.ensures in
-    let size = c.size-symbols.ensures in
-    let whole = sym c.if-ends_within.false ∙ c.ends_within.ensures in
-    let told = check_out _ _ _ _ _ _ _ _ _ wide size c.loop-left-test.true _ c.edit_at-e.ensures whole _ c.refusal_of-no.ensures c.if-no-ne-FINE.true in
-    sym (read_refused _ _ _ _ _ _ _ (sym c.loop-left.invariant.1.0 ∙ told))
-
-pub take_edit-t-requires : goal.take_edit-t-requires
-take_edit-t-requires c =
-    let a = edit_accepted _ _ _ _ (sym c.refusal_of-no.ensures ∙ c.if-no-ne-FINE.false) in
-    let g = c.loop-left.invariant.0 in
-    omega (arith, a.order, g.next, g.run, g.taken, g.text, c.loop-left-test.true, c.requires)
-
-pub overflow_add-at : goal.overflow_add-at
-overflow_add-at c =
-    omega (arith, ltb-false, sym c.ends_within.ensures ∙ c.if-ends_within.false)
-
-pub overflow_sub-left : goal.overflow_sub-left
-overflow_sub-left c = omega arith
-
-pub loop-left-smaller : goal.loop-left-smaller
-loop-left-smaller c = omega arith
-
-pub loop-left-preserved : goal.loop-left-preserved
-loop-left-preserved c =
-    let z = sym c.refusal_of-no.ensures ∙ c.if-no-ne-FINE.false in
-    let wide = c.width-step.ensures in
-    let size = c.size-symbols.ensures in
-    let whole = sym c.if-ends_within.false ∙ c.ends_within.ensures in
-    let more = c.loop-left-test.true in
-    let inv = c.loop-left.invariant in (
-      within_on _ _ _ _ _ _ _ inv.0 more (edit_accepted _ _ _ _ z) c.take_edit-t.ensures,
-      (
-        sym (check_on _ _ _ _ _ _ _ _ _ wide size more _ c.edit_at-e.ensures whole _ z c.take_edit-t.ensures) ∙ inv.1.0,
-        flanking_on _ _ _ _ _ _ _ _ _ _ _ _ _ _ wide more c.edit_at-e.ensures (rw size at z) c.take_edit-t.ensures c.past-flank.ensures inv.1.1,
-      ),
-    )
-
-pub finish_read-requires : goal.finish_read-requires
-finish_read-requires c = let g = c.loop-left.invariant.0 in omega (arith, g.next, g.taken, g.text, c.requires)
+pub finish-requires : goal.finish-requires
+finish-requires c =
+    let g = walked_within _ _ _ _ _ _ _ _ _ _ (within_start _ _ _ (omega arith)) (sym c.walk_edits.ensures ∙ c.in_ok-t.was) in
+    omega (arith, g.next, g.taken, g.text, c.requires)
 
 pub returns : goal.returns
-returns c = let inv = c.loop-left.invariant in c.finish_read.ensures ∙ read_end _ _ _ _ _ _ _ _ _ _ c.loop-left-test.false inv.1.0 inv.1.1
+unfolding after_read
+returns c =
+    rw (walked_read _ _ _ _ _ _ _ _ _ _ (check_start _ _ _ _ 0 _ _ _ refl) (flanking_start _ _ _ _ _ _ _ refl), ← c.walk_edits.ensures, c.in_ok-t.was, ← c.check.ensures, c.in_ok-check.was, c.finish.ensures) refl

@@ -14,14 +14,14 @@ returns-then-unit-ne-UNIT c = rw (ne_eqb _ _ c.if-unit-ne-UNIT.true, told c.refu
 
 pub counted-requires : goal.counted-requires
 counted-requires c =
-    record_counted c.args.unit.now _ _ _ c.args.state.now _ c.args.out.now c.read_unit-u.ensures c.read-before.ensures (c.record-r.ensures.value, c.record-r.ensures.out_after) c.in-Listed.is (omega (arith))
+    record_counted c.args.unit.now _ _ _ c.args.state.now _ c.args.out.now c.read_unit-u.ensures c.read-before.ensures (c.record-r.ensures.value, c.record-r.ensures.out_after) c.in-Ok.is (omega (arith))
 
-pub returns-in-Refused : goal.returns-in-Refused
-returns-in-Refused c =
-    record_refused _ _ _ _ _ _ _ c.read_unit-u.ensures c.read-before.ensures (c.record-r.ensures.value, c.record-r.ensures.out_after) c.if-unit-ne-UNIT.false c.in-Refused.is (told c.refused-in-Refused.type_inv c.refused-in-Refused.ensures)
+pub returns-in-Err : goal.returns-in-Err
+returns-in-Err c =
+    record_refused _ _ _ _ _ _ _ c.read_unit-u.ensures c.read-before.ensures (c.record-r.ensures.value, c.record-r.ensures.out_after) c.if-unit-ne-UNIT.false c.in-Err.is (told c.refused-in-Err.type_inv c.refused-in-Err.ensures)
 
-pub returns-in-Listed : goal.returns-in-Listed
-returns-in-Listed c =
+pub returns-in-Ok : goal.returns-in-Ok
+returns-in-Ok c =
     let a = c.args in
-    let nine = record_nine a.unit.now _ _ _ a.state.now _ a.out.now c.read_unit-u.ensures c.read-before.ensures (c.record-r.ensures.value, c.record-r.ensures.out_after) c.in-Listed.is in
-    record_listed _ _ _ _ _ _ _ c.read_unit-u.ensures c.read-before.ensures (c.record-r.ensures.value, c.record-r.ensures.out_after) c.if-unit-ne-UNIT.false c.in-Listed.is (c.lay.ensures ∙ state_into_lem _ _ nine) (told c.counted.type_inv c.counted.ensures)
+    let nine = record_nine a.unit.now _ _ _ a.state.now _ a.out.now c.read_unit-u.ensures c.read-before.ensures (c.record-r.ensures.value, c.record-r.ensures.out_after) c.in-Ok.is in
+    record_listed _ _ _ _ _ _ _ c.read_unit-u.ensures c.read-before.ensures (c.record-r.ensures.value, c.record-r.ensures.out_after) c.if-unit-ne-UNIT.false c.in-Ok.is (c.lay.ensures ∙ state_into_lem _ _ nine) (told c.counted.type_inv c.counted.ensures)

@@ -11,12 +11,12 @@ returns-then-counts-ne-SUBSEQUENCES c = rw (ne_eqb _ _ c.if-counts-ne-SUBSEQUENC
 
 pub bounds-counts-subsequence : goal.bounds-counts-subsequence
 bounds-counts-subsequence c =
-    pair_place _ _ _ c.args.counts.now c.if-counts-ne-SUBSEQUENCES.false (c.read.ensures.value, c.read.ensures.table_after) c.in-Count.is
+    pair_place _ _ _ c.args.counts.now c.if-counts-ne-SUBSEQUENCES.false (c.read.ensures.value, c.read.ensures.table_after) c.in-Ok.is
 
-pub returns-in-Refused : goal.returns-in-Refused
-returns-in-Refused c =
-    pair_call_refused _ _ _ _ c.if-counts-ne-SUBSEQUENCES.false (c.read.ensures.value, c.read.ensures.table_after) c.in-Refused.is (told c.refused-in-Refused.type_inv c.refused-in-Refused.ensures)
+pub returns-in-Err : goal.returns-in-Err
+returns-in-Err c =
+    pair_call_refused _ _ _ _ c.if-counts-ne-SUBSEQUENCES.false (c.read.ensures.value, c.read.ensures.table_after) c.in-Err.is (told c.refused-in-Err.type_inv c.refused-in-Err.ensures)
 
-pub returns-in-Count : goal.returns-in-Count
-returns-in-Count c =
-    pair_read _ _ _ _ c.if-counts-ne-SUBSEQUENCES.false (c.read.ensures.value, c.read.ensures.table_after) c.in-Count.is (told c.counted.type_inv c.counted.ensures)
+pub returns-in-Ok : goal.returns-in-Ok
+returns-in-Ok c =
+    pair_read _ _ _ _ c.if-counts-ne-SUBSEQUENCES.false (c.read.ensures.value, c.read.ensures.table_after) c.in-Ok.is (told c.counted.type_inv c.counted.ensures)

@@ -9,9 +9,9 @@ pub returns-then-unit-ne-UNIT : goal.returns-then-unit-ne-UNIT
 unfolding unit_call
 returns-then-unit-ne-UNIT c = rw (ne_eqb _ _ c.if-unit-ne-UNIT.true, told c.refused.type_inv c.refused.ensures)
 
-pub returns-in-Refused : goal.returns-in-Refused
-returns-in-Refused c = unit_call_refused _ _ c.if-unit-ne-UNIT.false c.read.ensures c.in-Refused.is (told c.refused-in-Refused.type_inv c.refused-in-Refused.ensures)
+pub returns-in-Err : goal.returns-in-Err
+returns-in-Err c = unit_call_refused _ _ c.if-unit-ne-UNIT.false c.read.ensures c.in-Err.is (told c.refused-in-Err.type_inv c.refused-in-Err.ensures)
 
-pub returns-in-Read : goal.returns-in-Read
-returns-in-Read c =
-    unit_call_read _ _ c.if-unit-ne-UNIT.false c.read.ensures c.in-Read.is c.lay_unit.ensures (told c.counted.type_inv c.counted.ensures)
+pub returns-in-Ok : goal.returns-in-Ok
+returns-in-Ok c =
+    unit_call_read _ _ c.if-unit-ne-UNIT.false c.read.ensures c.in-Ok.is c.lay_unit.ensures (told c.counted.type_inv c.counted.ensures)

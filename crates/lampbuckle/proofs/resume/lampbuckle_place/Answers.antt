@@ -15,4 +15,4 @@ returns-then-state-ne-STATE c = rw (eq-eqb _ _ c.if-counts-ne-SUBSEQUENCES.false
 
 pub returns : goal.returns
 returns c =
-    place_found _ _ _ _ _ _ c.if-counts-ne-SUBSEQUENCES.false c.if-state-ne-STATE.false c.place-p.ensures (told_outcome c.settle.type_inv c.settle.ensures)
+    place_found _ _ _ _ _ _ c.if-counts-ne-SUBSEQUENCES.false c.if-state-ne-STATE.false c.place-go.ensures (told_outcome c.settle.type_inv c.settle.ensures)

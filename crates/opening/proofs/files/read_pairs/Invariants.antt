@@ -1,7 +1,6 @@
--- `opening::files::read_pairs` is safe and ends. Assumes nothing.
-use Rattle.std.proofs.Common.{◌-◌}
-use Rattle.unit.specs.Pairs.{subsequences}
+-- `opening::files::read_pairs` is safe. Assumes nothing.
+use Rattle.std.proofs.Common.{length, ◌≡◌}
 use Rattle.opening.proofs.files.read_pairs.Given as goal
 
-abbrev pub decreases-loop-i : goal.decreases-loop-i
-decreases-loop-i l = subsequences - l.i
+abbrev pub invariant-loop-i : goal.invariant-loop-i
+invariant-loop-i l = length l.buf ≡ length l.fn.buf

@@ -26,11 +26,11 @@ returns-in-4 c = rw c.in-4.is c.diff_ref_seq-in-4.ensures
 
 pub returns-in-5 : goal.returns-in-5
 unfolding table60
-returns-in-5 c = rw c.in-5.is (done _ _ _ _ _ _ _ _ _ _ _ c.linked.ensures refl refl)
+returns-in-5 c = rw c.in-5.is (done _ _ _ _ _ _ _ _ _ _ _ refl c.new.ensures refl refl)
 
 pub returns-in-6 : goal.returns-in-6
 unfolding table60
-returns-in-6 c = rw c.in-6.is (done _ _ _ _ _ _ _ _ _ _ _ c.linked-in-6.ensures refl refl)
+returns-in-6 c = rw c.in-6.is (done _ _ _ _ _ _ _ _ _ _ _ refl c.new-in-6.ensures refl refl)
 
 pub returns-in_default : goal.returns-in_default
 unfolding table60

@@ -1,20 +1,22 @@
 -- `pairing::rows::same_rec` meets its contract, by the rules of `With`. Assumes nothing.
+use mathlib.Core.Path.{refl}
+use Rattle.std.proofs.lemmas.Result.{err_from_is_err_and}
 use Rattle.pairing.proofs.With.{done, decode_given, decode_missing, fits, above, decode_same, decode_differ}
 use Rattle.pairing.specs.Table60.{same_rec}
 use Rattle.pairing.proofs.rows.same_rec.Goals as goal
 
 pub returns-then-class-eq-U : goal.returns-then-class-eq-U
 unfolding same_rec
-returns-then-class-eq-U c = search (done, decode_same, decode_differ)
+returns-then-class-eq-U c = decode_same _ _ _ _ _ _ _ _ c.if-class-eq-U.true (done _ _ _ _ _ _ _ _ _ _ _ refl c.new.ensures refl refl)
 
-pub returns-in_default : goal.returns-in_default
+pub returns-in_err-v : goal.returns-in_err-v
 unfolding same_rec
-returns-in_default c = search (decode_given, decode_missing, decode_same, decode_differ)
+returns-in_err-v c = let p = err_from_is_err_and c.from_residual.result c.from_residual.ensures.1 in rw (p.1, p.2) (decode_differ _ _ _ _ _ _ _ _ c.if-class-eq-U.false (decode_missing _ _ _ _ _ _ _ c.take.ensures _ c.in_err-v.was refl))
 
 pub returns-then-v-gt-LARGEST16 : goal.returns-then-v-gt-LARGEST16
 unfolding same_rec
-returns-then-v-gt-LARGEST16 c = search (decode_given, decode_missing, fits, above, decode_same, decode_differ)
+returns-then-v-gt-LARGEST16 c = decode_differ _ _ _ _ _ _ _ _ c.if-class-eq-U.false (decode_given _ _ _ _ _ _ _ c.take.ensures _ _ c.in_ok-v.was (above _ _ _ _ _ _ c.if-v-gt-LARGEST16.true refl))
 
 pub returns : goal.returns
 unfolding same_rec
-returns c = search (done, decode_given, decode_missing, fits, above, decode_same, decode_differ)
+returns c = decode_differ _ _ _ _ _ _ _ _ c.if-class-eq-U.false (decode_given _ _ _ _ _ _ _ c.take.ensures _ _ c.in_ok-v.was (fits _ _ _ _ _ _ c.if-v-gt-LARGEST16.false (done _ _ _ _ _ _ _ _ _ _ _ refl c.new-2.ensures c.read_first.ensures refl)))

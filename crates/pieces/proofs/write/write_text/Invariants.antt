@@ -1,5 +1,5 @@
 -- `pieces::write::write_text` meets its contract. The loop's invariant: to lay the text of the pieces that are left, from here, gives what laying the whole gives. Assumes nothing.
-use Prim.Native.Nat.{◌+◌, ◌*◌, ◌≤◌}
+use Prim.Native.Nat.{◌+◌, ◌-◌, ◌*◌, ◌≤◌}
 use lib.ListN.{length}
 use Rattle.writing.proofs.LayLaws.{Rest}
 use Rattle.splices.specs.Code.Walk.{pieces_left}
@@ -9,12 +9,9 @@ use Rattle.pieces.specs.Code.Written.{Ordered}
 use Rattle.pieces.proofs.WriteLaws.{OnWalk}
 use Rattle.pieces.proofs.write.write_text.Given as goal
 
-abbrev pub invariant-loop-left : goal.invariant-loop-left
-invariant-loop-left l =
-    OnWalk l.unit.class l.unit.alphabet l.frame l.symbols l.run.mapped l.w l.left
+abbrev pub invariant-loop : goal.invariant-loop
+invariant-loop l =
+    OnWalk l.unit.class l.unit.alphabet l.frame l.symbols l.run.mapped l.w (l.end + 1 - l.counter)
     × (Ordered l.least (pieces_left l.unit.class l.unit.alphabet l.frame l.symbols l.run.mapped l.w)
     × (Rest l.out l.next (print_all (operations_behind l.unit.alphabet l.block.rcomp l.least (pieces_left l.unit.class l.unit.alphabet l.frame l.symbols l.run.mapped l.w))) l.initial.out l.at (print_all (operations_behind l.unit.alphabet l.block.rcomp 0 (pieces_left l.unit.class l.unit.alphabet l.frame l.symbols l.run.mapped l.initial.w)))
     × (l.at + 2 * length (print_all (operations_behind l.unit.alphabet l.block.rcomp 0 (pieces_left l.unit.class l.unit.alphabet l.frame l.symbols l.run.mapped l.initial.w))) ≤ length l.initial.out)))
-
-abbrev pub decreases-loop-left : goal.decreases-loop-left
-decreases-loop-left l = l.left

@@ -12,27 +12,18 @@ unfolding count_into
 returns-then-out-fields c = simp (lt-ltb _ _ c.if-out-fields.true)
 
 pub loop-left-init : goal.loop-left-init
-loop-left-init c = (omega arith, rest_start _ _ _)
+loop-left-init c = rest_start _ _ _
 
 pub put_u32-at-requires : goal.put_u32-at-requires
 put_u32-at-requires c =
     let p = c.args in
     let left = c.loop-left.left in
-    let h = rest_room (be 4 left) (countdown (left - 1)) c.loop-left.invariant.1 (countdown_on _ c.loop-left-test.true) (omega (arith, length_countdown p.fields)) in
+    let h = rest_room (be 4 left) (countdown (left - 1)) c.loop-left.invariant (countdown_on _ c.loop-left-test.true) (omega (arith, length_countdown p.fields)) in
     omega (arith, length_be 4 left)
 
-pub overflow_sub-left : goal.overflow_sub-left
-overflow_sub-left c = omega arith
-
-pub loop-left-smaller : goal.loop-left-smaller
-loop-left-smaller c = omega arith
-
 pub loop-left-preserved : goal.loop-left-preserved
-loop-left-preserved c = (omega arith, rest_put c.loop-left.invariant.1 (countdown_on _ c.loop-left-test.true) c.put_u32-at.ensures)
-
-pub shape_of-out : goal.shape_of-out
-shape_of-out c = c.loop-left.invariant.1.long
+loop-left-preserved c = rest_put c.loop-left.invariant (countdown_on _ c.loop-left-test.true) c.put_u32-at.ensures
 
 pub returns : goal.returns
 unfolding count_into
-returns c = simp (le-ltb _ _ c.if-out-fields.false) (rest_done c.loop-left.invariant.1 (countdown_none _ c.loop-left-test.false)).holds
+returns c = simp (le-ltb _ _ c.if-out-fields.false) (rest_done c.loop-left.invariant (countdown_none _ (omega arith))).holds

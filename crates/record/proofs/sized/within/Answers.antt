@@ -8,22 +8,22 @@ use lib.Seq.{length-take-le}
 use Rattle.frame.specs.Hex.{unhex}
 use Rattle.frame.specs.Line.{line_digits, line_of}
 use Rattle.frame.specs.Steps.{stored_at}
-use Rattle.frame.specs.declared.line.Line.TheVariants.{Frame}
+use Rattle.std.specs.Prelude.{Ok}
 use Rattle.frame.proofs.LineLaws.{frame_is_line}
 use Rattle.frame.proofs.DecodeLaws.{count, decoded_is, decoded_front}
 use Rattle.record.proofs.sized.within.Goals as goal
 
 -- the frame has half as many bytes as the line
-half_is : (line : List ℕ) (size : ℕ) → line_of line ≡ Frame size → length line / 2 ≡ size
+half_is : (line : List ℕ) (size : ℕ) → line_of line ≡ Ok size → length line / 2 ≡ size
 half_is line size e = omega (arith, (frame_is_line line_digits line size e).long)
 
-formed : (line : List ℕ) (size : ℕ) → line_of line ≡ Frame size → line_of line ≡ Frame (length line / 2)
+formed : (line : List ℕ) (size : ℕ) → line_of line ≡ Ok size → line_of line ≡ Ok (length line / 2)
 formed line size e = rw (half_is line size e) e
 
-room : (line own : List ℕ) (size : ℕ) → line_of line ≡ Frame size → size ≤ length own → length line / 2 ≤ length own
+room : (line own : List ℕ) (size : ℕ) → line_of line ≡ Ok size → size ≤ length own → length line / 2 ≤ length own
 room line own size e h = omega (arith, half_is line size e, h)
 
-front : (line own : List ℕ) (size : ℕ) → line_of line ≡ Frame size → size ≤ length own → {f : List ℕ} (rest : List ℕ)
+front : (line own : List ℕ) (size : ℕ) → line_of line ≡ Ok size → size ≤ length own → {f : List ℕ} (rest : List ℕ)
     → f ≡ stored_at (take (length line / 2) own) 0 (take (length (take (length line / 2) own)) (unhex line)) → take (length line / 2) (f ++ rest) ≡ unhex line
 front line own size e h rest q = decoded_front _ _ (formed line size e) rest (decoded_is _ _ (formed line size e) _ (room line own size e h) q)
 

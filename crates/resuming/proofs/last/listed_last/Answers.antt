@@ -1,10 +1,12 @@
 -- `resuming::last::listed_last` meets its contract: whether there is a state behind the line picks the case. Assumes nothing.
-use mathlib.Core.Path.{◌∙◌}
-use Rattle.resuming.proofs.ToldLaws.{told_back, told_no_back}
+use mathlib.Core.Path.{refl}
+use Rattle.resuming.specs.Last.{said_of}
 use Rattle.resuming.proofs.last.listed_last.Goals as goal
 
-pub returns-then-back : goal.returns-then-back
-returns-then-back c = told_back _ c.behind-back.ensures c.if-back.true
+pub returns-in-Some : goal.returns-in-Some
+unfolding said_of
+returns-in-Some c = rw (← c.behind.ensures, c.in-Some.is) refl
 
-pub returns : goal.returns
-returns c = c.bare.ensures ∙ told_no_back _ c.behind-back.ensures c.if-back.false
+pub returns-in-None : goal.returns-in-None
+unfolding said_of
+returns-in-None c = rw (← c.behind.ensures, c.in-None.is) refl

@@ -8,4 +8,4 @@ pub returns-then-symbols-at : goal.returns-then-symbols-at
 returns-then-symbols-at c = (sym (get_or-eq_default c.args.symbols.now 0 c.if-symbols-at.true), omega arith)
 
 pub returns : goal.returns
-returns c = c.wide.ensures
+returns c = (c.from.ensures, omega arith)

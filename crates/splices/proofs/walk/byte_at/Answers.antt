@@ -9,4 +9,4 @@ pub returns-then-frame-at : goal.returns-then-frame-at
 returns-then-frame-at c = (sym (get_or-eq_default {A = ℕ} c.args.frame.now 0 {n = c.args.at} c.if-frame-at.true), omega arith)
 
 pub returns : goal.returns
-returns c = (cc, omega (arith, c.wide.ensures.1))
+returns c = (cc, omega arith)

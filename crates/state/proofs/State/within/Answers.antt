@@ -1,25 +1,23 @@
--- `state::State::within` meets its contract. The loop's invariant: to compare what is left gives what comparing the whole gives. Assumes nothing.
+-- `state::State::within` meets its contract: each index is compared with its count. Assumes nothing.
 use native.Mathlib.Omega.{arith}
-use mathlib.Core.Path.{refl, sym, ◌∙◌}
-use Rattle.state.proofs.StateLaws.{within_over, within_short, within_stops, within_goes}
-use borrow.Author.Rules.{rules}
+use mathlib.Core.Path.{◌≡◌, sym}
+use lib.ListN.{length, get_or}
+use Prim.Native.Nat.{◌≤◌}
+use Rattle.std.specs.Prelude.{IsTrue, ◌↔◌, EachIndex}
+use Rattle.std.proofs.Common.{rules}
+use Rattle.std.proofs.iter.runs.Made.{chains}
+use Rattle.state.specs.State.{index_count}
+use Rattle.state.proofs.StateLaws.{within_few, within_said}
 use Rattle.state.proofs.State.within.Goals as goal
 
-pub loop-i-init : goal.loop-i-init
-loop-i-init c = (omega arith, search rules, refl)
-
-pub returns-then-counts-i : goal.returns-then-counts-i
-returns-then-counts-i c = let inv = c.loop-i.invariant in
-    sym (inv.2 ∙ within_short _ _ _ (omega (arith, inv.1)) c.if-counts-i.true)
-
-pub returns-then-counts-i-2 : goal.returns-then-counts-i-2
-returns-then-counts-i-2 c = let inv = c.loop-i.invariant in
-    sym (inv.2 ∙ within_stops _ _ _ (omega (arith, inv.1)) c.if-counts-i.false c.if-counts-i-2.true)
-
-pub loop-i-preserved : goal.loop-i-preserved
-loop-i-preserved c = let inv = c.loop-i.invariant in
-    (omega arith, inv.1, inv.2 ∙ within_goes _ _ _ (omega (arith, inv.1)) c.if-counts-i.false c.if-counts-i-2.false)
+pub returns-then-counts-lt-INDEXES : goal.returns-then-counts-lt-INDEXES
+returns-then-counts-lt-INDEXES c =
+    let all : length c.args.self.index ≡ index_count = search rules in sym (within_few _ _ (omega (arith, c.if-counts-lt-INDEXES.true)))
 
 pub returns : goal.returns
-returns c = let inv = c.loop-i.invariant in
-    sym (inv.2 ∙ within_over c.args.self.index _ c.loop-i.i (omega (arith, inv.1)))
+returns c =
+    let is = c.args.self.index in
+    let cs = c.args.counts.now in
+    let all : length is ≡ index_count = search rules in
+    let each : IsTrue c.all.result ↔ EachIndex is (λ k. get_or is k 0 ≤ get_or cs k 0) = search (rules, chains) in
+    within_said _ is cs (omega (arith, c.if-counts-lt-INDEXES.false)) each

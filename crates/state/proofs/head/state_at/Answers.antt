@@ -9,11 +9,11 @@ pub overflow_add-number : goal.overflow_add-number
 overflow_add-number c = omega (arith, word_below _ _ c.word_at-number.ensures)
 
 pub loop-j-init : goal.loop-j-init
-loop-j-init c = (omega arith, index_start _ _ refl)
+loop-j-init c = index_start _ _ refl
 
 pub loop-j-preserved : goal.loop-j-preserved
-loop-j-preserved c = (omega arith, index_more _ c.loop-j.invariant.1 c.loop-j-test.true c.word_at.ensures)
+loop-j-preserved c = index_more _ c.loop-j.invariant (omega arith) c.word_at.ensures
 
 pub returns : goal.returns
 unfolding state_at
-returns c = rw (index_all _ c.loop-j.invariant.1 c.loop-j-test.false, c.word_at-number.ensures)
+returns c = rw (index_all _ c.loop-j.invariant (omega arith), c.word_at-number.ensures)

@@ -1,9 +1,0 @@
--- `frame::line::higher` meets its contract: the branch that is taken. Assumes nothing.
-use borrow.Author.Tests.{le-ltb, lt-ltb}
-use Rattle.frame.proofs.line.higher.Goals as goal
-
-pub returns-then-a-b : goal.returns-then-a-b
-returns-then-a-b c = simp (lt-ltb _ _ c.if-a-b.true)
-
-pub returns-else-a-b : goal.returns-else-a-b
-returns-else-a-b c = simp (le-ltb _ _ c.if-a-b.false)
