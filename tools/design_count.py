@@ -512,7 +512,7 @@ def point_8(s):
                     sign = "--" if n.endswith(".antt") else "//"
                     lines = open(os.path.join(folder, n), encoding="utf-8").read().split("\n")
                     text[os.path.join(folder, n)] = "\n".join(re.sub(r"(^|\s)%s.*" % sign, "", l) for l in lines)
-    word = re.compile(r"[^\s(){}.;,@\"«»\[\]∙]+")
+    word = re.compile(r"[^\s(){}.;:,@\"«»\[\]∙]+")
     uses = {}  # a word: how many lines have it; own: how many of them begin with it, by file and indentation
     own = {}
     for path, t in text.items():

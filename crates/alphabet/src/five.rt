@@ -24,7 +24,7 @@ fn digits_of(symbol: u8) -> u16
     0x3030 + a + c + g + t + n
 }
 
-// A symbol's letter of alphabet 0.
+// A symbol's letter of alphabet 0. Not one with letter::put_letter: choices are laid many at once, and what a table says is not (docs/BENCHMARK.md).
 pub fn put_five(out: &mut [u8], at: usize, symbol: u8) -> usize
     requires { at + 2 ≤ length out.old }
     ensures { Laid out.old out.new at result (letter_of 0 symbol ∷ []) }

@@ -23,7 +23,7 @@ const FIVE_DIGITS: [u8; DIGITS] = *b"414347544e000000000000000000000000";
 
 const SIXTEEN_DIGITS: [u8; DIGITS] = *b"41434754525953574b4d424448564e2d00";
 
-// How many symbols an alphabet has: an index is below this.
+// How many symbols an alphabet has: an index is below this. Here, in `digits`, `index_of_n` and `put_letters` of bases any number but 0 is alphabet 1 (specs/): no enum says that.
 pub fn size(alphabet: u32) -> u32
     ensures { result ≡ size_of alphabet }
 {

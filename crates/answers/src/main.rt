@@ -2,7 +2,8 @@
 #![tactic(auto)]
 
 use front::{pair_line, reference_line, unit_line};
-use std::io::Result;
+use refusal::Refusal;
+use std::io;
 use unit::Pairs;
 
 // Class M, class 9 and nothing more, the kind alone, another kind, HM with one segment, AU end below start, a byte left over, a capital letter.
@@ -32,43 +33,33 @@ const PAIRS: [&[u8]; 8] = [
 // Two bases, three where two have room, none, another kind, an odd count.
 const REFERENCES: [&[u8]; 5] = [b"070001\n", b"07000102\n", b"07\n", b"060001\n", b"07000\n"];
 
-fn unit_answer(line: &[u8]) -> u32 {
-    match unit_line::read(line) {
+// What a line's reader answers: the number of a refusal, 0 for any value.
+fn number<T: Copy>(answer: Result<T, Refusal>) -> u32 {
+    match answer {
         Ok(_) => 0,
         Err(refusal) => u32::from(refusal),
     }
 }
 
-// Subsequence 2.
-fn pair_answer(line: &[u8], table: &mut [u32]) -> u32 {
-    match pair_line::read(line, 2, table) {
-        Ok(_) => 0,
-        Err(refusal) => u32::from(refusal),
-    }
-}
-
-// A reference of four places, two of them used.
-fn reference_answer(line: &[u8]) -> u32 {
-    match reference_line::read(line, &mut [0u8; 4], 2) {
-        Ok(_) => 0,
-        Err(refusal) => u32::from(refusal),
-    }
-}
-
-fn show(rt: &HostRuntime, number: u32) -> Result<()> {
+fn show(rt: &HostRuntime, number: u32) -> io::Result<()> {
     println!(rt; "{number}")
 }
 
-fn main(rt: HostRuntime) -> Result<()> {
+fn main(rt: HostRuntime) -> io::Result<()> {
     for line in UNITS {
-        show(&rt, unit_answer(line))?;
+        show(&rt, number(unit_line::read(line)))?;
     }
-    // A table of the right shape, and last one that is too short.
+    // Subsequence 2, into a table of the right shape, and last into one that is too short.
     for line in PAIRS {
-        show(&rt, pair_answer(line, &mut [0u32; Pairs::TABLE]))?;
+        let mut table = [0u32; Pairs::TABLE];
+        show(&rt, number(pair_line::read(line, 2, &mut table)))?;
     }
+    // A reference of four places, two of them used.
     for line in REFERENCES {
-        show(&rt, reference_answer(line))?;
+        show(&rt, number(reference_line::read(line, &mut [0u8; 4], 2)))?;
     }
-    show(&rt, pair_answer(b"02020000\n", &mut [0u32; 8]))
+    show(
+        &rt,
+        number(pair_line::read(b"02020000\n", 2, &mut [0u32; 8])),
+    )
 }

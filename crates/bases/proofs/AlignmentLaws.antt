@@ -13,7 +13,7 @@ use lib.ListN.{length, get_or, length-append, get_or-append}
 use lib.Seq.{get_or-append-add}
 use Rattle.std.specs.Prelude.{⊤, Ok, Err}
 use Rattle.std.specs.Result.{is_ok}
-use Rattle.refusal.specs.Answers.{OrRefused, fine, checked}
+use Rattle.refusal.specs.Answers.{OrRefused, no_refusal, checked}
 use Rattle.refusal.proofs.AnswerLaws.{past_checked}
 use Rattle.frame.proofs.HexLaws.{by_test}
 use Rattle.frame.proofs.Tests.{false_true}
@@ -191,18 +191,18 @@ from_somewhere mapped symbols p (e ∷ es) i s h l =
 -- ---- refusal 10 of the reference
 
 -- a check that accepts says no more
-pub is_fine : (x : OrRefused ⊤) → is_ok x ≡ true → x ≡ fine
+pub is_fine : (x : OrRefused ⊤) → is_ok x ≡ true → x ≡ no_refusal
 is_fine (Ok t) q = refl
 is_fine (Err refusal) q = false_true q
 
-first_left : (a b : OrRefused ⊤) → checked a b ≡ fine → a ≡ fine
+first_left : (a b : OrRefused ⊤) → checked a b ≡ no_refusal → a ≡ no_refusal
 first_left a b z = (past_checked a b tt z).0
 
-first_right : (a b : OrRefused ⊤) → checked a b ≡ fine → b ≡ fine
+first_right : (a b : OrRefused ⊤) → checked a b ≡ no_refusal → b ≡ no_refusal
 first_right a b z = (past_checked a b tt z).1
 
 module _ (alphabet : ℕ) (reference : List ℕ) (first : ℕ) where
-  match_fine : (position n k : ℕ) → match_refusal alphabet reference first position n ≡ fine → k < n → base_refusal alphabet reference first (position + k) ≡ fine
+  match_fine : (position n k : ℕ) → match_refusal alphabet reference first position n ≡ no_refusal → k < n → base_refusal alphabet reference first (position + k) ≡ no_refusal
   unfolding match_refusal
   match_fine position zero k z h = absurd (omega arith)
   match_fine position (suc n) zero z h = rw (add-zero position) (first_left _ _ z)
@@ -212,7 +212,7 @@ module _ (alphabet : ℕ) (reference : List ℕ) (first : ℕ) where
 
 module _ (alphabet : ℕ) (reference : List ℕ) (first mapped : ℕ) where
   -- where the reference is not refused, no base under a match is
-  pub under_fine : (p : Places) (es : List Edit) (i position : ℕ) → refusal_from alphabet reference first mapped p es ≡ fine → UnderMatch mapped p es i position → base_refusal alphabet reference first position ≡ fine
+  pub under_fine : (p : Places) (es : List Edit) (i position : ℕ) → refusal_from alphabet reference first mapped p es ≡ no_refusal → UnderMatch mapped p es i position → base_refusal alphabet reference first position ≡ no_refusal
   unfolding refusal_from UnderMatch
   under_fine p [] i position z u = rw u.at (match_fine alphabet reference first (R p) (mapped - r p) (i - r p) z (omega (arith, u.from, u.until)))
   under_fine p (e ∷ es) i position z u =
@@ -222,7 +222,7 @@ module _ (alphabet : ℕ) (reference : List ℕ) (first mapped : ℕ) where
       u
 
   -- where no position that the edits take is refused, none under a match is
-  pub taken_fine : (p : Places) (es : List Edit) → match_refusal alphabet reference first (R p) (taken_from mapped (r p) es) ≡ fine → refusal_from alphabet reference first mapped p es ≡ fine
+  pub taken_fine : (p : Places) (es : List Edit) → match_refusal alphabet reference first (R p) (taken_from mapped (r p) es) ≡ no_refusal → refusal_from alphabet reference first mapped p es ≡ no_refusal
   unfolding refusal_from taken_from
   taken_fine p [] z = z
   taken_fine p (e ∷ es) z =

@@ -9,11 +9,9 @@ use Rattle.frame.proofs.HexLaws.{bytes_append}
 use Rattle.frame.proofs.Tests.{one_of}
 use Rattle.alphabet.proofs.AlphabetLaws.{letter_byte}
 use Rattle.edits.specs.Edits.{deletion}
-use Rattle.edits.specs.Lengths.{mapped_length}
 use Rattle.edits.specs.declared.edit.Edit.{Edit}
-use Rattle.edits.specs.declared.Block.{Block}
 use Rattle.bases.specs.Reference.{is_lent, base_at, matched_bases}
-use Rattle.bases.specs.Bases.{R, r, beginning, past_edit, edit_bases, bases_from, letters_at, mapped_bases, bases_text}
+use Rattle.bases.specs.Bases.{R, r, past_edit, edit_bases, bases_from, letters_at}
 use Rattle.bases.specs.declared.places.Places.{Places}
 
 -- ---- letters
@@ -45,12 +43,3 @@ bytes_mapped alphabet reference first mapped p (e ∷ es) =
     bytes_append (matched_bases alphabet reference first (R p) (e.offset - r p) ++ edit_bases alphabet e) _
     (bytes_append (matched_bases alphabet reference first (R p) (e.offset - r p)) _ (bytes_matched alphabet reference first (R p) (e.offset - r p)) (bytes_edit alphabet e))
     (bytes_mapped alphabet reference first mapped (past_edit e p) es)
-
-pub bytes_read : (class alphabet : ℕ) (frame reference : List ℕ) (first position : ℕ) (s : Block) → Bytes (bases_text class alphabet frame reference first position s)
-unfolding bases_text
-bytes_read class alphabet frame reference first position s =
-    let left = letters_at alphabet frame s.soft_at s.clips.left_soft in
-    let middle = mapped_bases class alphabet frame reference first position (mapped_length s.length s.clips) s.edits s.edits_at in
-    bytes_append (left ++ middle) _
-    (bytes_append left middle (bytes_letters alphabet frame _ _) (bytes_mapped alphabet reference first _ (beginning position) _))
-    (bytes_letters alphabet frame _ _)

@@ -69,28 +69,3 @@ module _ (class alphabet : ℕ) (frame reference : List ℕ) (first position : �
   pub base_from : (i : ℕ) → i < mapped_length s.length s.clips
       → ((at : ℕ) × UnderMatch (mapped_length s.length s.clips) (beginning position) (edit_list_at class alphabet frame s.edits s.edits_at) i at) ⊎ ((d : Edit) × OfEdit (edit_list_at class alphabet frame s.edits s.edits_at) i d)
   base_from i h = from_somewhere (mapped_length s.length s.clips) (size_of alphabet) (beginning position) (edit_list_at class alphabet frame s.edits s.edits_at) i a.edits (omega arith) h
-
-  -- the soft-clipped bases, on the left and on the right
-  pub base_of_left : (i : ℕ) → i < s.clips.left_soft → get_or (bases_text class alphabet frame reference first position s) i 0 ≡ letter_of alphabet (get_or frame (s.soft_at + i) 0)
-  unfolding bases_text
-  base_of_left i h =
-      let left = letters_at alphabet frame s.soft_at s.clips.left_soft in
-      let mapped = mapped_bases class alphabet frame reference first position (mapped_length s.length s.clips) s.edits s.edits_at in
-      let right = letters_at alphabet frame (s.soft_at + s.clips.left_soft) s.clips.right_soft in
-      let n = length_letters alphabet frame s.soft_at s.clips.left_soft in
-      get_or-append (left ++ mapped) right 0 i (omega (arith, length-append left mapped))
-      ∙ get_or-append left mapped 0 i (omega arith)
-      ∙ get_d_letters alphabet frame s.soft_at s.clips.left_soft i h
-
-  pub base_of_right : (i : ℕ) → i < s.clips.right_soft
-      → get_or (bases_text class alphabet frame reference first position s) (s.clips.left_soft + mapped_length s.length s.clips + i) 0 ≡ letter_of alphabet (get_or frame (s.soft_at + s.clips.left_soft + i) 0)
-  unfolding bases_text
-  base_of_right i h =
-      let left = letters_at alphabet frame s.soft_at s.clips.left_soft in
-      let mapped = mapped_bases class alphabet frame reference first position (mapped_length s.length s.clips) s.edits s.edits_at in
-      let right = letters_at alphabet frame (s.soft_at + s.clips.left_soft) s.clips.right_soft in
-      let n = length_letters alphabet frame s.soft_at s.clips.left_soft in
-      let g = length-append left mapped in
-      let k : s.clips.left_soft + mapped_length s.length s.clips + i - length (left ++ mapped) ≡ i = omega (arith, mapped_length_lem) in
-      get_d_back (left ++ mapped) right (s.clips.left_soft + mapped_length s.length s.clips + i) (omega (arith, mapped_length_lem))
-      ∙ rw k (get_d_letters alphabet frame (s.soft_at + s.clips.left_soft) s.clips.right_soft i h)

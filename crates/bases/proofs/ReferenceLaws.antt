@@ -5,14 +5,14 @@ use mathlib.Core.Path.{◌≡◌, refl, ap, sym, ◌∙◌}
 use mathlib.Core.Bool.{true, false, cond}
 use mathlib.Core.List.{List, [], ◌∷◌, ◌++◌}
 use native.Mathlib.Omega.{arith}
-use native.Mathlib.Nat.{zero-add, suc-add, add-zero}
+use native.Mathlib.Nat.{zero-add, suc-add, add-zero, add_assoc}
 use native.Mathlib.Numerals.{add-one}
 use borrow.Author.Tests.{lt-ltb, le-ltb, le-leb, lt-leb, ltb-true, ltb-false, leb-true, leb-false}
 use lib.Dec.{ltb, leb}
 use lib.ListN.{length, get_or, take, drop, replicate, length-replicate, length-drop}
 use lib.Seq.{get_or-take, get_or-drop, length-take-le}
 use Rattle.std.specs.Prelude.{⊤, Ok, Err}
-use Rattle.refusal.specs.Answers.{OrRefused, fine, checked}
+use Rattle.refusal.specs.Answers.{OrRefused, no_refusal, checked}
 use Rattle.refusal.specs.declared.Refusal.TheVariants.{SymbolOut}
 use Rattle.writing.specs.Lay.{Laid}
 use Rattle.frame.proofs.HexLaws.{by_test}
@@ -84,19 +84,19 @@ higher_out size a b n =
     (λ t. by_test (leb size a) (λ u. simp (t, u, le-leb size b (omega (arith, ltb-true a b t, leb-true size a u)))) (λ u. simp (t, u)))
     (λ t. by_test (leb size a) (λ u. simp (t, u)) (λ u. simp (t, u, lt-leb size b (omega (arith, ltb-false a b t, leb-false size a u)))))
 
-highest_out : (alphabet most : ℕ) (s : List ℕ) (at n : ℕ) → cond (leb (size_of alphabet) (highest most s at n)) (Err SymbolOut) fine ≡ cond (leb (size_of alphabet) most) (Err SymbolOut) (symbols_refusal alphabet s at n)
+highest_out : (alphabet most : ℕ) (s : List ℕ) (at n : ℕ) → cond (leb (size_of alphabet) (highest most s at n)) (Err SymbolOut) no_refusal ≡ cond (leb (size_of alphabet) most) (Err SymbolOut) (symbols_refusal alphabet s at n)
 unfolding highest symbols_refusal
 highest_out alphabet most s at zero = refl
 highest_out alphabet most s at (suc n) = highest_out alphabet (higher most (get_or s at 0)) s (at + 1) n ∙ higher_out (size_of alphabet) most (get_or s at 0) (symbols_refusal alphabet s (at + 1) n)
 
 -- one of the symbols is outside the alphabet where the highest is
-pub symbols_highest : (alphabet : ℕ) (s : List ℕ) (at n : ℕ) → symbols_refusal alphabet s at n ≡ cond (leb (size_of alphabet) (highest 0 s at n)) (Err SymbolOut) fine
+pub symbols_highest : (alphabet : ℕ) (s : List ℕ) (at n : ℕ) → symbols_refusal alphabet s at n ≡ cond (leb (size_of alphabet) (highest 0 s at n)) (Err SymbolOut) no_refusal
 symbols_highest alphabet s at n =
     rw (highest_out alphabet 0 s at n, lt-leb (size_of alphabet) 0 (omega (arith, code_of_n_inside alphabet)))
 
 -- ---- the first of two refusals
 
-pub first_fine : (n : OrRefused ⊤) → checked n fine ≡ n
+pub first_fine : (n : OrRefused ⊤) → checked n no_refusal ≡ n
 first_fine (Ok t) = refl
 first_fine (Err refusal) = refl
 
@@ -151,7 +151,7 @@ module _ (alphabet : ℕ) (reference : List ℕ) (first : ℕ) where
       let z : is_lent reference first position ≡ false = rw (add-zero position) at (h 0 (omega arith)) in
       rw (z, matched_padded (position + 1) n (λ i l. let e : position + 1 + i ≡ position + suc i = omega arith in rw e (h (suc i) (omega arith))))
 
-  pub match_padded : (position n : ℕ) → ((i : ℕ) → i < n → is_lent reference first (position + i) ≡ false) → match_refusal alphabet reference first position n ≡ fine
+  pub match_padded : (position n : ℕ) → ((i : ℕ) → i < n → is_lent reference first (position + i) ≡ false) → match_refusal alphabet reference first position n ≡ no_refusal
   unfolding match_refusal base_refusal
   match_padded position zero h = refl
   match_padded position (suc n) h =
@@ -292,17 +292,27 @@ max_higher a b = by_test (ltb a b) (λ t. rw t (omega (arith, ltb-true a b t))) 
 pub split_window : (lent first position n : ℕ) {wide gap before start end : ℕ} → wide ≡ first → gap ≡ wide - position → before ≡ min n gap → start ≡ lent_before lent first position → end ≡ lent_before lent first (position + n) → Split lent first position n before start end
 split_window lent first position n {gap = gap} w g q s e = window_split lent first position n (rw w at g) (q ∙ min_least n gap) s e
 
--- ---- a loop over the symbols from `start` to `end`: each by the place that it has among all
+-- ---- the symbols from `start` to `end`, lent alone
 
 module _ (s : List ℕ) {start end : ℕ} (order : start ≤ end) (room : end ≤ length s) where
-  window_length : length (take (end - start) (drop start s)) ≡ end - start
+  pub window_length : length (take (end - start) (drop start s)) ≡ end - start
   window_length = length-take-le (end - start) (drop start s) (omega (arith, length-drop start s))
 
-  pub window_more : {i : ℕ} → i < length (take (end - start) (drop start s)) → start + i < end
-  window_more h = omega (arith, window_length)
+  window_symbol : (i : ℕ) → i < end - start → get_or (take (end - start) (drop start s)) i 0 ≡ get_or s (start + i) 0
+  window_symbol i h = get_or-take (end - start) (drop start s) i 0 h ∙ get_or-drop start s i 0
 
-  pub window_over : {i : ℕ} → length (take (end - start) (drop start s)) ≤ i → end ≤ start + i
-  window_over h = omega (arith, window_length)
+  letters_within : (alphabet n i : ℕ) → i + n ≤ end - start → letters_at alphabet (take (end - start) (drop start s)) i n ≡ letters_at alphabet s (start + i) n
+  unfolding letters_at
+  letters_within alphabet zero i h = refl
+  letters_within alphabet (suc n) i h = rw (window_symbol i (omega arith), letters_within alphabet n (i + 1) (omega arith), ← add_assoc) refl
 
-  pub window_symbol : {i : ℕ} → i < length (take (end - start) (drop start s)) → get_or (take (end - start) (drop start s)) i 0 ≡ get_or s (start + i) 0
-  window_symbol {i} h = get_or-take (end - start) (drop start s) i 0 (omega (arith, window_more h)) ∙ get_or-drop start s i 0
+  pub letters_window : (alphabet : ℕ) → letters_at alphabet (take (end - start) (drop start s)) 0 (length (take (end - start) (drop start s))) ≡ letters_at alphabet s start (end - start)
+  letters_window alphabet = rw window_length (letters_within alphabet (end - start) 0 (omega arith) ∙ ap (λ k. letters_at alphabet s k (end - start)) (add-zero start))
+
+  symbols_within : (alphabet n i : ℕ) → i + n ≤ end - start → symbols_refusal alphabet (take (end - start) (drop start s)) i n ≡ symbols_refusal alphabet s (start + i) n
+  unfolding symbols_refusal
+  symbols_within alphabet zero i h = refl
+  symbols_within alphabet (suc n) i h = rw (window_symbol i (omega arith), symbols_within alphabet n (i + 1) (omega arith), ← add_assoc) refl
+
+  pub symbols_window : (alphabet : ℕ) → symbols_refusal alphabet (take (end - start) (drop start s)) 0 (length (take (end - start) (drop start s))) ≡ symbols_refusal alphabet s start (end - start)
+  symbols_window alphabet = rw window_length (symbols_within alphabet (end - start) 0 (omega arith) ∙ ap (λ k. symbols_refusal alphabet s k (end - start)) (add-zero start))

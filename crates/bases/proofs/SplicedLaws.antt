@@ -9,7 +9,7 @@ use native.Mathlib.Nat.{sub-zero}
 use borrow.Author.Tests.{ltb-true, ltb-false}
 use lib.Dec.{ltb}
 use lib.ListN.{length, get_or, length-append, get_or-append}
-use Rattle.refusal.specs.Answers.{fine}
+use Rattle.refusal.specs.Answers.{no_refusal}
 use Rattle.frame.specs.Hex.{Bytes}
 use Rattle.frame.proofs.HexLaws.{by_test, bytes_append}
 use Rattle.alphabet.specs.Table35.{size_of, letter_of}
@@ -98,8 +98,8 @@ matched_place i at (cons p h hs) u =
     ⊎_elim (λ w. let l = under_place p.until (piece_beginning p) p.edits i at w in h at l.0 l.1) (λ w. matched_place i at hs w) u
 
 -- where no piece's reference is refused, no base under a match is
-pub matched_fine : (alphabet : ℕ) (reference : List ℕ) (first : ℕ) {ps : List Piece} (i at : ℕ) → EachPiece (λ (p : Piece). piece_refusal alphabet reference first p ≡ fine) ps → MatchedIn ps i at
-    → base_refusal alphabet reference first at ≡ fine
+pub matched_fine : (alphabet : ℕ) (reference : List ℕ) (first : ℕ) {ps : List Piece} (i at : ℕ) → EachPiece (λ (p : Piece). piece_refusal alphabet reference first p ≡ no_refusal) ps → MatchedIn ps i at
+    → base_refusal alphabet reference first at ≡ no_refusal
 unfolding MatchedIn
 matched_fine alphabet reference first i at nil u = absurd u
 matched_fine alphabet reference first i at (cons p h hs) u =

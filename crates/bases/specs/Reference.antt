@@ -1,7 +1,7 @@
 -- The lent reference (document 01, Lines: 07 reference): its bases from the position `first` on, and N where it is missing (10.2.2).
 -- Assumes nothing.
 use Rattle.std.specs.Prelude.{ℕ, zero, suc, ◌+◌, ◌-◌, Bool, false, cond, List, [], ◌∷◌, ltb, leb, length, get_or, ⊤, Err}
-use Rattle.refusal.specs.Answers.{OrRefused, fine, checked}
+use Rattle.refusal.specs.Answers.{OrRefused, no_refusal, checked}
 use Rattle.refusal.specs.declared.Refusal.TheVariants.{SymbolOut}
 use Rattle.alphabet.specs.Table35.{letter_n, size_of, letter_of}
 
@@ -22,8 +22,8 @@ base_at alphabet reference first position =
 unfoldable pub base_refusal : (alphabet : ℕ) (reference : List ℕ) (first position : ℕ) → OrRefused ⊤
 base_refusal alphabet reference first position =
     cond (is_lent reference first position)
-    (cond (leb (size_of alphabet) (lent_symbol reference first position)) (Err SymbolOut) fine)
-    fine
+    (cond (leb (size_of alphabet) (lent_symbol reference first position)) (Err SymbolOut) no_refusal)
+    no_refusal
 
 -- the bases of n positions, from a position on
 unfoldable pub matched_bases : (alphabet : ℕ) (reference : List ℕ) (first position n : ℕ) → List ℕ
@@ -33,6 +33,6 @@ matched_bases alphabet reference first position (suc n) =
 
 -- refusal 10 of n positions, from a position on
 unfoldable pub match_refusal : (alphabet : ℕ) (reference : List ℕ) (first position n : ℕ) → OrRefused ⊤
-match_refusal alphabet reference first position zero = fine
+match_refusal alphabet reference first position zero = no_refusal
 match_refusal alphabet reference first position (suc n) =
     checked (base_refusal alphabet reference first position) (match_refusal alphabet reference first (position + 1) n)

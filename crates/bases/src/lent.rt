@@ -18,24 +18,22 @@ fn lent_before(lent: usize, first: u32, position: u64) -> usize
     position.saturating_sub(u64::from(first)).min(lent as u64) as usize
 }
 
-// The highest symbol from `start` to `end`. Every one is looked at, with no way out before the last, so that many are looked at at once.
-fn highest(symbols: &[u8], start: usize, end: usize) -> u8
-    requires { (start ≤ end) × (end ≤ length symbols.now) }
-    ensures { result ≡ highestOf 0 symbols.now start (end - start) }
+// The highest symbol. Every one is looked at, with no way out before the last, so that many are looked at at once.
+fn highest(symbols: &[u8]) -> u8
+    ensures { result ≡ highestOf 0 symbols.now 0 (length symbols.now) }
 {
     let mut most: u8 = 0;
-    for symbol in &symbols[start..end] {
+    for symbol in symbols {
         most = most.max(*symbol);
     }
     most
 }
 
-// Refusal 10 of the lent bases from `start` to `end`.
-fn check_lent(reference: &[u8], alphabet: u32, start: usize, end: usize) -> Result<(), Refusal>
-    requires { (start ≤ end) × (end ≤ length reference.now) }
-    ensures { result ≡ symbols_refusal alphabet reference.now start (end - start) }
+// Refusal 10 of lent bases.
+fn check_lent(lent: &[u8], alphabet: u32) -> Result<(), Refusal>
+    ensures { result ≡ symbols_refusal alphabet lent.now 0 (length lent.now) }
 {
-    if alphabet::size(alphabet) <= u32::from(highest(reference, start, end)) {
+    if alphabet::size(alphabet) <= u32::from(highest(lent)) {
         return Err(Refusal::SymbolOut);
     }
     Ok(())
@@ -54,7 +52,7 @@ pub(crate) fn check_range(
 {
     let start = lent_before(reference.len(), first, position);
     let end = lent_before(reference.len(), first, position + n);
-    check_lent(reference, alphabet, start, end)
+    check_lent(&reference[start..end], alphabet)
 }
 
 // Refusal 10 of a match from both pointers up to a place of the read.

@@ -173,7 +173,7 @@ pub fn write_piece(
     )
 }
 
-// The bases of a read without splices, from its first mapped base on. One with no edits is one match, and takes no table.
+// The bases of a read without splices, from its first mapped base on. One with no edits is one match, and takes no table. The class picks a copy of the one walk.
 fn put_run(
     out: &mut [u8],
     at: usize,

@@ -50,11 +50,10 @@ impl Places {
         requires { R self ≤ farthest }
         ensures { result ≡ past_match to self }
     {
-        let n = self.until(to);
-        let at = self.reference;
-        let reference = RefPlace(at.0 + n);
-        let read = ReadPlace(to);
-        Places { reference, read }
+        Places {
+            reference: RefPlace(self.reference.0 + self.until(to)),
+            read: ReadPlace(to),
+        }
     }
 
     // A substitution moves both.
@@ -62,11 +61,10 @@ impl Places {
         requires { (R self + 1 < 2 ^ 64) × (r self + 1 < 2 ^ 32) }
         ensures { result ≡ past_substitution self }
     {
-        let at = self.reference;
-        let in_read = self.read;
-        let reference = RefPlace(at.0 + 1);
-        let read = ReadPlace(in_read.0 + 1);
-        Places { reference, read }
+        Places {
+            reference: RefPlace(self.reference.0 + 1),
+            read: ReadPlace(self.read.0 + 1),
+        }
     }
 
     // An insertion moves r alone.
@@ -74,10 +72,10 @@ impl Places {
         requires { r self + 1 < 2 ^ 32 }
         ensures { result ≡ past_insertion self }
     {
-        let reference = self.reference;
-        let in_read = self.read;
-        let read = ReadPlace(in_read.0 + 1);
-        Places { reference, read }
+        Places {
+            read: ReadPlace(self.read.0 + 1),
+            ..self
+        }
     }
 
     // A deletion moves R alone.
@@ -85,10 +83,10 @@ impl Places {
         requires { R self + 1 < 2 ^ 64 }
         ensures { result ≡ past_deletion self }
     {
-        let at = self.reference;
-        let reference = RefPlace(at.0 + 1);
-        let read = self.read;
-        Places { reference, read }
+        Places {
+            reference: RefPlace(self.reference.0 + 1),
+            ..self
+        }
     }
 
     // The match up to an edit, then the edit's own row.

@@ -3,10 +3,9 @@ ghost use Rattle.std.specs.Prelude.{◌≡◌, ◌≤◌};
 ghost use Rattle.block.specs.Clips.{clips_at, clips_in, clips_in_read, clips_in_pieces};
 
 use edits::Clips;
-use frame::field::{Cursor, read_u16};
+use frame::field::{Cursor, read_u16, word_at};
 use refusal::Refusal;
 use splices::Splices;
-use splices::walk::length_at;
 
 // Left soft, left hard, right soft, right hard; refused once all four are read where the soft ones leave the read, or a piece of it, no base.
 // The place behind them stands first in the answer, as the wider field: the compiler then keeps both out of memory (docs/BENCHMARK.md).
@@ -67,11 +66,11 @@ fn within_pieces(
     ensures { result ≡ clips_in_pieces clips frame.now splices next.at }
 {
     let first = splices.lengths_at;
-    if length_at(frame, first) <= u32::from(clips.left_soft) {
+    if word_at(frame, first) <= u32::from(clips.left_soft) {
         return Err(Refusal::ClipsOut);
     }
     let last = first + 2 * (splices.count as usize - 1);
-    if length_at(frame, last) <= u32::from(clips.right_soft) {
+    if word_at(frame, last) <= u32::from(clips.right_soft) {
         return Err(Refusal::ClipsOut);
     }
     Ok((next, clips))

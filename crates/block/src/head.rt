@@ -11,7 +11,7 @@ use splices::take::take_pieces;
 use state::State;
 use unit::Unit;
 
-// Read length, rcomp and the pieces, and the place behind them.
+// Read length, rcomp, a number as in `Block`, and the pieces, and the place behind them.
 #[derive(Clone, Copy)]
 pub struct BlockHead {
     pub length: u32,

@@ -7,7 +7,7 @@ use crate::symbols::read_symbols;
 use frame::field::Cursor;
 use refusal::Refusal;
 
-// The read's length, the place of its symbols, and the place behind the block.
+// The read's length, the place of its symbols, and the place behind the block. Places and no slices, as in `Block`: `unaligned_at` (specs/) answers them.
 #[derive(Clone, Copy)]
 pub struct UnalignedBlock {
     pub length: u32,

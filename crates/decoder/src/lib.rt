@@ -4,7 +4,7 @@
 ghost use Rattle.std.specs.Prelude.{◌≡◌, [], ◌<◌, length};
 ghost use Rattle.refusal.specs.Numbers.{number_of};
 ghost use Rattle.state.specs.Listed.{most_listed};
-ghost use Rattle.listing.specs.Listing.{line05, line06};
+ghost use Rattle.listing.specs.Listing.{line05};
 ghost use Rattle.listing.specs.Turn.{stop, record_turn, last_turn};
 ghost use Rattle.decoder.specs.Decoder.{setup_of};
 ghost use Rattle.decoder.specs.Turned.{lent_line, turn_of, turned, printed_into, stopped_by, turned_of, output_of};
@@ -15,7 +15,7 @@ use state::State;
 use state::listed::ListedLine;
 use unit::Unit;
 
-// How many bytes were added, and whether the listing goes on behind them; or that less is lent than the longest line needs.
+// How many bytes were added, and whether the listing goes on behind them; or that less is lent than the longest line needs. No Result: each caller takes all three apart.
 #[derive(Clone, Copy, Debug, PartialEq, Eq)]
 pub enum Added {
     Go(usize),
@@ -23,14 +23,14 @@ pub enum Added {
     NoRoom,
 }
 
-// The answer, and the state to go on from; where the listing stops, as it was given.
+// The answer, and the state to go on from; where the listing stops, as it was given: `turned_of` in specs/ hands it back beside every answer.
 #[derive(Clone, Copy)]
 pub struct Turned {
     pub added: Added,
     pub state: State,
 }
 
-// A last line that was written, or had no room.
+// A last line that was written, or had no room. No From: it takes two values.
 fn stopped(wrote: Result<usize, Refusal>, state: State) -> Turned
     ensures { result ≡ stopped_by wrote state }
 {
@@ -56,16 +56,6 @@ fn refuse(out: &mut [u8], number: u32, refusal: Refusal, state: State) -> Turned
     stopped(wrote, state)
 }
 
-// The listing is whole.
-fn finish(out: &mut [u8], count: u32, state: State) -> Turned
-    requires { most_listed < length out.old }
-    ensures value { result ≡ turned state (stop (line06 count)) }
-    ensures out_after { out.new ≡ printed_into out.old (stop (line06 count)) }
-{
-    let wrote = close::write_done(out, count);
-    stopped(wrote, state)
-}
-
 // No record is wanted: bytes behind the last record line, or pair symbols left over, are refused by 14.
 fn last_turn(unit: Unit, counts: &[u32], state: State, line: &[u8], out: &mut [u8]) -> Turned
     requires { most_listed < length out.old }
@@ -76,7 +66,7 @@ fn last_turn(unit: Unit, counts: &[u32], state: State, line: &[u8], out: &mut [u
         return refuse(out, unit.records, Refusal::Missing, state);
     }
     if state.all_taken(counts) {
-        return finish(out, unit.records, state);
+        return stopped(close::write_done(out, unit.records), state);
     }
     refuse(out, unit.records, Refusal::Missing, state)
 }

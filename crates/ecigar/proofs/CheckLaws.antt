@@ -11,7 +11,7 @@ use borrow.Author.Tests.{le-ltb, ltb-true, ltb-false}
 use lib.Dec.{ltb, eqb}
 use lib.ListN.{length, length-append}
 use Rattle.std.specs.Prelude.{⊤, Ok, Err}
-use Rattle.refusal.specs.Answers.{OrRefused, fine, after_ok, checked}
+use Rattle.refusal.specs.Answers.{OrRefused, no_refusal, after_ok, checked}
 use Rattle.refusal.specs.declared.Refusal.{Refusal}
 use Rattle.refusal.specs.declared.Refusal.TheVariants.{OffsetOut}
 use Rattle.frame.proofs.Tests.{by_test}
@@ -43,7 +43,7 @@ taken_by_most next e h = by_test (eqb e.kind insertion) (λ k. simp k (omega ari
 
 -- ---- an answer by cases
 
-pub by_answer : {P : Type 0} (x : OrRefused ⊤) → (x ≡ fine → P) → ((refusal : Refusal) → x ≡ Err refusal → P) → P
+pub by_answer : {P : Type 0} (x : OrRefused ⊤) → (x ≡ no_refusal → P) → ((refusal : Refusal) → x ≡ Err refusal → P) → P
 by_answer (Ok t) f g = f refl
 by_answer (Err refusal) f g = g refusal refl
 
@@ -51,7 +51,7 @@ by_answer (Err refusal) f g = g refusal refl
 pub accepted_refused : {P A : Type 0} (a : A) (refusal : Refusal) → ◌≡◌ {A = OrRefused A} (Ok a) (Err refusal) → P
 accepted_refused a refusal z = absurd (let y : ◌≡◌ {A = ℕ} 0 1 = cc in omega arith)
 
-pub complete_inside : (frame : List ℕ) (at width : ℕ) → complete frame at width ≡ fine → at + width ≤ length frame
+pub complete_inside : (frame : List ℕ) (at width : ℕ) → complete frame at width ≡ no_refusal → at + width ≤ length frame
 complete_inside frame at width q =
     by_test (ends_within frame at width) (λ a. refused_fine _ (simp a at q)) (λ a. ltb-false (length frame) (at + width) a)
 
@@ -89,12 +89,12 @@ module _ (class alphabet : ℕ) (frame : List ℕ) (mapped k at step symbols : �
   unfolding checked_from answered
   check_short refusal h = rw (refusal_here, ← h)
 
-  module _ (e : Edit) (it : e ≡ edit_at class alphabet frame at) (whole : fine ≡ complete frame at step) where
+  module _ (e : Edit) (it : e ≡ edit_at class alphabet frame at) (whole : no_refusal ≡ complete frame at step) where
     pub check_out : (refusal : Refusal) → Err refusal ≡ edit_refusal mapped symbols t.walk.next e → checked_from class alphabet frame mapped k at t ≡ Err refusal
     unfolding checked_from answered
     check_out refusal q = rw (refusal_here, ← whole, ← it, ← q)
 
-    pub check_on : (r : Tally) → edit_refusal mapped symbols t.walk.next e ≡ fine → r ≡ tallied t e
+    pub check_on : (r : Tally) → edit_refusal mapped symbols t.walk.next e ≡ no_refusal → r ≡ tallied t e
         → checked_from class alphabet frame mapped k at t ≡ checked_from class alphabet frame mapped (k - 1) (at + step) r
     unfolding checked_from taken_from tallied text_by past
     check_on r z q =
@@ -130,7 +130,7 @@ module _ (class alphabet : ℕ) (frame : List ℕ) (start count mapped : ℕ) wh
   flanking_start t q s = rw q (flank_start mapped all)
 
   pub flanking_on : (k at step : ℕ) (t r : Tally) (f g : Flank) (e : Edit) → step ≡ width_of class → 0 < k → e ≡ edit_at class alphabet frame at
-      → edit_refusal mapped (size_of alphabet) t.walk.next e ≡ fine → r ≡ tallied t e → g ≡ flank_past f t.walk.next e
+      → edit_refusal mapped (size_of alphabet) t.walk.next e ≡ no_refusal → r ≡ tallied t e → g ≡ flank_past f t.walk.next e
       → Flanking k at t f → Flanking (k - 1) (at + step) r g
   unfolding tallied Sound
   flanking_on k at step t r f g e wide more it z q p h s =
@@ -168,8 +168,8 @@ module _ (class alphabet : ℕ) (frame : List ℕ) (start count mapped : ℕ) wh
   unfolding after_read after_last Sound
   read_end k at t f none q h =
       let here = sym (check_end class alphabet frame mapped k at t none) ∙ q in
-      let e : flank_end f t.walk.next mapped ≡ cond (all_flanked mapped all) fine (Err OffsetOut) =
-      flank_end_lem f t.walk.next mapped ∙ ap (λ (b : Bool). cond b fine (Err OffsetOut)) (rw (edits_none class alphabet frame k at none) at h tt) in
+      let e : flank_end f t.walk.next mapped ≡ cond (all_flanked mapped all) no_refusal (Err OffsetOut) =
+      flank_end_lem f t.walk.next mapped ∙ ap (λ (b : Bool). cond b no_refusal (Err OffsetOut)) (rw (edits_none class alphabet frame k at none) at h tt) in
       by_test (all_flanked mapped all)
       (λ b. rw (e, b) (here ∙ sym (read_flanked b)))
       (λ b. rw (e, b) (sym (read_bare _ (sym here) b)))
@@ -277,7 +277,7 @@ within_start mapped from n h = record { next = h; run = omega arith; begun = inl
 -- ---- what an accepted list of edits meets
 
 -- nothing is refused: each edit is accepted where it stands, and the frame has them all
-pub refusal_fine : (class alphabet : ℕ) (frame : List ℕ) (mapped next k at : ℕ) → edits_refusal class alphabet frame mapped next k at ≡ fine
+pub refusal_fine : (class alphabet : ℕ) (frame : List ℕ) (mapped next k at : ℕ) → edits_refusal class alphabet frame mapped next k at ≡ no_refusal
     → Sound mapped (size_of alphabet) next (edit_list_at class alphabet frame k at) × (at ≤ length frame → at + k * width_of class ≤ length frame)
 unfolding edits_refusal Sound edit_list_at
 refusal_fine class alphabet frame mapped next zero at q = (tt, λ h. omega arith)
@@ -291,7 +291,7 @@ refusal_fine class alphabet frame mapped next (suc k) at q =
     (λ n b. refused_fine _ (simp (a, b) at q)))
 
 -- where there is an edit, it begins in the frame
-begin : (class alphabet : ℕ) (frame : List ℕ) (mapped next k at : ℕ) → edits_refusal class alphabet frame mapped next k at ≡ fine → 0 < k → at ≤ length frame
+begin : (class alphabet : ℕ) (frame : List ℕ) (mapped next k at : ℕ) → edits_refusal class alphabet frame mapped next k at ≡ no_refusal → 0 < k → at ≤ length frame
 unfolding edits_refusal
 begin class alphabet frame mapped next zero at q h = absurd (omega arith)
 begin class alphabet frame mapped next (suc k) at q h =
@@ -341,7 +341,7 @@ checked_fine class alphabet frame at count mapped taken text q =
 
 -- what is accepted where it stands, and stands in the frame, is not refused
 sound_fine : (class alphabet : ℕ) (frame : List ℕ) (mapped next k at : ℕ) → at + k * width_of class ≤ length frame → Sound mapped (size_of alphabet) next (edit_list_at class alphabet frame k at)
-    → edits_refusal class alphabet frame mapped next k at ≡ fine
+    → edits_refusal class alphabet frame mapped next k at ≡ no_refusal
 unfolding edits_refusal Sound edit_list_at
 sound_fine class alphabet frame mapped next zero at h s = refl
 sound_fine class alphabet frame mapped next (suc k) at h s =

@@ -7,7 +7,7 @@ use Prim.Native.Nat.{ℕ, ◌+◌, ◌-◌, ◌*◌, ◌<◌, ◌≤◌}
 use native.Mathlib.Omega.{arith}
 use lib.ListN.{length}
 use Rattle.std.specs.Prelude.{Ok}
-use Rattle.refusal.specs.Answers.{OrRefused, fine}
+use Rattle.refusal.specs.Answers.{OrRefused, no_refusal}
 use Rattle.writing.specs.Lay.{Laid}
 use Rattle.writing.proofs.LayLaws.{laid_as}
 use Rattle.alphabet.specs.Table35.{size_of, letter_of}
@@ -67,8 +67,8 @@ substitutions_start class alphabet frame mapped k at q =
     record { tally = start_tally_at 0; plain = refl; there = refl; taken = refl; written = refl; inside = omega arith; short = omega arith; rest = q }
 
 module _ (class alphabet : ℕ) (frame : List ℕ) (mapped k at step symbols : ℕ) (wide : step ≡ width_of class) (size : symbols ≡ size_of alphabet) (more : 0 < k)
-    (only : substitutes_only class ≡ true) (e : Edit) (it : e ≡ edit_at class alphabet frame at) (room : fine ≡ complete frame at step) where
-  pub substitutions_on : (m : ℕ) {next text : ℕ} {whole : OrRefused Extent} → SubstitutionsChecked class alphabet frame mapped k at next text whole → edit_refusal mapped symbols next e ≡ fine
+    (only : substitutes_only class ≡ true) (e : Edit) (it : e ≡ edit_at class alphabet frame at) (room : no_refusal ≡ complete frame at step) where
+  pub substitutions_on : (m : ℕ) {next text : ℕ} {whole : OrRefused Extent} → SubstitutionsChecked class alphabet frame mapped k at next text whole → edit_refusal mapped symbols next e ≡ no_refusal
       → m ≡ length (print_all (matches (e.offset - next))) → SubstitutionsChecked class alphabet frame mapped (k - 1) (at + step) (e.offset + 1) (text + m + 1) whole
   unfolding tallied text_by past
   substitutions_on m {next} {text} g z q =

@@ -1,7 +1,7 @@
 -- The check of a segment's edits (document 01, Refusal numbers and Order): the first refusal, or what the edits come to.
 -- Assumes nothing.
 use Rattle.std.specs.Prelude.{ℕ, zero, suc, ◌+◌, Bool, cond, List, ltb, length, ⊤, Ok, Err}
-use Rattle.refusal.specs.Answers.{OrRefused, fine, checked}
+use Rattle.refusal.specs.Answers.{OrRefused, no_refusal, checked}
 use Rattle.refusal.specs.declared.Refusal.TheVariants.{Misframed, LengthOut, FieldOut, OffsetOut}
 use Rattle.alphabet.specs.Table35.{size_of}
 use Rattle.edits.specs.Edits.{width_of, edit_at, edit_list_at, next_offset, edit_refusal, taken_from}
@@ -22,12 +22,12 @@ ends_within frame at width = ltb (length frame) (at + width)
 
 -- refusal 2 where it does
 abbrev pub complete : (frame : List ℕ) (at width : ℕ) → OrRefused ⊤
-complete frame at width = cond (ends_within frame at width) (Err Misframed) fine
+complete frame at width = cond (ends_within frame at width) (Err Misframed) no_refusal
 
 -- the refusal of the first of k edits that is refused: the frame ends within it, or it is refused itself.
 -- `next` is the least offset that may stand here
 unfoldable pub edits_refusal : (class alphabet : ℕ) (frame : List ℕ) (mapped next k at : ℕ) → OrRefused ⊤
-edits_refusal class alphabet frame mapped next zero at = fine
+edits_refusal class alphabet frame mapped next zero at = no_refusal
 edits_refusal class alphabet frame mapped next (suc k) at =
     let e : Edit = edit_at class alphabet frame at in
     checked (complete frame at (width_of class))

@@ -205,7 +205,7 @@ fn check_piece_edits(
     Ok(finish(t, run.mapped))
 }
 
-// The same of a whole read where every edit is a substitution: no run is ever open, each edit takes the reference position of its base, and there is no deletion.
+// The same of a whole read where every edit is a substitution: no run is ever open, each edit takes the reference position of its base, and there is no deletion. A walk of its own for speed (docs/BENCHMARK.md).
 fn check_substitutions(frame: &[u8], class: u32, alphabet: u32, run: Run) -> Result<Extent, Refusal>
     requires { (substitutes_only class ≡ true) × (run.mapped ≤ most_read) }
     ensures { result ≡ piece_checked class alphabet frame.now 0 run.edits_at run.edits run.mapped }
@@ -230,7 +230,7 @@ fn check_substitutions(frame: &[u8], class: u32, alphabet: u32, run: Run) -> Res
     })
 }
 
-// The edits of a whole read, where they stand in the frame.
+// The edits of a whole read, where they stand in the frame. Two walks, since one for both is slower where all are substitutions (docs/BENCHMARK.md).
 pub fn check(frame: &[u8], class: u32, alphabet: u32, run: Run) -> Result<Extent, Refusal>
     ensures { result ≡ check_of class alphabet frame.now run.edits_at run.edits run.mapped }
 {
@@ -246,7 +246,7 @@ pub fn check(frame: &[u8], class: u32, alphabet: u32, run: Run) -> Result<Extent
     check_edits(frame, class, alphabet, run)
 }
 
-// The edits of one piece of a read. Offsets count over the whole read, so the piece says from which offset it goes until which.
+// The edits of one piece of a read. Offsets count over the whole read, so the piece says from which offset it goes until which. The limits are tested as in `check`: one function for both tests would be longer than they are, with its contract.
 pub fn check_piece(
     frame: &[u8],
     class: u32,

@@ -14,7 +14,7 @@ pub fn splice_len(n: u32) -> u32
     count_len(n)
 }
 
-// A splice, laid as digits.
+// A splice, laid as digits. Any rcomp but 0 and 1 is without strand (`splice_of` in specs/): no enum says that.
 pub fn put_splice(out: &mut [u8], at: usize, rcomp: u32, n: u32) -> usize
     requires { at + 2 * length (print_all (splice_of rcomp n ∷ [])) ≤ length out.old }
     ensures { Laid out.old out.new at result (print_all (splice_of rcomp n ∷ [])) }

@@ -18,7 +18,7 @@ use unit::Unit;
 use writing::decimal::put_decimal;
 use writing::lay::put_byte;
 
-// A count and its sign.
+// A count and its sign. No Display, as for `put_decimal`.
 pub(crate) fn put_count(out: &mut [u8], at: usize, n: u32, sign: u8) -> usize
     requires { at + 2 * length (counted n sign) ≤ length out.old }
     ensures { Laid out.old out.new at result (counted n sign) }
@@ -154,7 +154,7 @@ pub fn write_piece(
     put_edits(out, at, frame, Unit::I, alphabet, start, run)
 }
 
-// The same where every edit is a substitution: a match and a letter, and so on.
+// The same where every edit is a substitution: a match and a letter, and so on. A walk of its own for speed (docs/BENCHMARK.md).
 fn put_substitutions(
     out: &mut [u8],
     from: usize,
@@ -185,6 +185,7 @@ fn put_substitutions(
 }
 
 // The text of a run that `check` accepted, without clips. A run with no edits is one match, and takes no table.
+// Two walks, as in `check`.
 fn put_run(out: &mut [u8], at: usize, frame: &[u8], class: u32, alphabet: u32, run: Run) -> usize
     requires edits_le_most_edits { (run.edits ≤ most_edits) × (run.edits_at + run.edits * width_of class ≤ length frame.now) }
     requires sound { Sound run.mapped (size_of alphabet) 0 (edit_list_at class alphabet frame.now run.edits run.edits_at) }

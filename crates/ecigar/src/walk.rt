@@ -5,7 +5,7 @@ ghost use Rattle.ecigar.specs.Ecigar.{set_out_at, joins_run, past};
 
 use edits::edit::{Edit, next_offset};
 
-// Table 93's previousOffset, and the run of insertions or deletions that is open: its type, and how many edits it has.
+// Table 93's previousOffset, and the run of insertions or deletions that is open: its type, as `Edit` has it, and how many edits it has.
 #[derive(Clone, Copy)]
 pub struct Walk {
     pub next: u32,

@@ -10,7 +10,7 @@ use borrow.Author.Tests.{ltb-false, leb-false, eqb-true, eqb-false, eq-eqb, ne_e
 use lib.Dec.{ltb, leb, eqb}
 use lib.ListN.{length, get_or}
 use Rattle.std.specs.Prelude.{⊤, Err}
-use Rattle.refusal.specs.Answers.{OrRefused, fine}
+use Rattle.refusal.specs.Answers.{OrRefused, no_refusal}
 use Rattle.refusal.specs.declared.Refusal.{Refusal}
 use Rattle.frame.specs.Field.{big_at}
 use Rattle.frame.proofs.Tests.{by_test, false_true, one_of}
@@ -72,7 +72,7 @@ next_most e = by_test (eqb e.kind deletion) (λ t. simp t (omega arith)) (λ t. 
 -- ---- what an edit that is not refused meets
 
 -- a refusal is no acceptance
-pub refused_fine : {P : Type 0} (refusal : Refusal) → ◌≡◌ {A = OrRefused ⊤} (Err refusal) fine → P
+pub refused_fine : {P : Type 0} (refusal : Refusal) → ◌≡◌ {A = OrRefused ⊤} (Err refusal) no_refusal → P
 refused_fine refusal z = absurd (let y : ◌≡◌ {A = ℕ} 0 1 = cc in omega arith)
 
 pub record EditAccepted (mapped symbols next : ℕ) (e : Edit) : Type 0 where
@@ -80,7 +80,7 @@ pub record EditAccepted (mapped symbols next : ℕ) (e : Edit) : Type 0 where
   pub inside : next_offset e ≤ mapped
   pub kind : e.kind ≤ deletion
 
-pub edit_accepted : (mapped symbols next : ℕ) (e : Edit) → edit_refusal mapped symbols next e ≡ fine → EditAccepted mapped symbols next e
+pub edit_accepted : (mapped symbols next : ℕ) (e : Edit) → edit_refusal mapped symbols next e ≡ no_refusal → EditAccepted mapped symbols next e
 unfolding edit_refusal deletion_refusal
 edit_accepted mapped symbols next e z =
     by_test (ltb deletion e.kind) (λ a. refused_fine _ (simp a at z))
@@ -102,7 +102,7 @@ edit_accepted mapped symbols next e z =
     (λ g. record { order = ltb-false e.offset next f; inside = omega (arith, leb-false mapped e.offset g); kind = k })))))
 
 -- a substitution or an insertion that is not refused brings a symbol of the alphabet
-pub symbol_inside : (mapped symbols next : ℕ) (e : Edit) → edit_refusal mapped symbols next e ≡ fine → (e.kind ≡ deletion → ⊥) → e.symbol < symbols
+pub symbol_inside : (mapped symbols next : ℕ) (e : Edit) → edit_refusal mapped symbols next e ≡ no_refusal → (e.kind ≡ deletion → ⊥) → e.symbol < symbols
 unfolding edit_refusal
 symbol_inside mapped symbols next e z h =
     by_test (ltb deletion e.kind) (λ a. refused_fine _ (simp a at z))
@@ -125,7 +125,7 @@ unfolding edit_list_at
 length_edits class alphabet frame zero at = refl
 length_edits class alphabet frame (suc k) at = ap suc (length_edits class alphabet frame k (at + width_of class))
 
-pub sound_head : (mapped symbols next : ℕ) (e : Edit) (es : List Edit) → Sound mapped symbols next (e ∷ es) → edit_refusal mapped symbols next e ≡ fine
+pub sound_head : (mapped symbols next : ℕ) (e : Edit) (es : List Edit) → Sound mapped symbols next (e ∷ es) → edit_refusal mapped symbols next e ≡ no_refusal
 unfolding Sound
 sound_head mapped symbols next e es p = p.0
 

@@ -10,7 +10,7 @@ use native.Mathlib.Nat.{sub-zero}
 use borrow.Author.Tests.{ltb-true, ltb-false, eqb-true, eqb-false, eq-eqb, ne_eqb}
 use lib.Dec.{ltb, eqb}
 use Rattle.std.specs.Prelude.{Err}
-use Rattle.refusal.specs.Answers.{fine}
+use Rattle.refusal.specs.Answers.{no_refusal}
 use Rattle.refusal.specs.declared.Refusal.TheVariants.{OffsetOut}
 use Rattle.frame.proofs.Tests.{by_test, false_true}
 use Rattle.edits.specs.Edits.{insertion, deletion, width_of, edit_list_at, next_offset, Sound}
@@ -280,7 +280,7 @@ unfolding flanked_from
 flank_start mapped es = each_equal _ _ es (λ o. rw (sub-zero o) refl)
 
 -- behind the last
-pub flank_end_lem : (f : Flank) (next mapped : ℕ) → flank_end f next mapped ≡ cond (flanked_from f mapped next []) fine (Err OffsetOut)
+pub flank_end_lem : (f : Flank) (next mapped : ℕ) → flank_end f next mapped ≡ cond (flanked_from f mapped next []) no_refusal (Err OffsetOut)
 unfolding flanked_from each_deletion open_end inserted_at some_base
 flank_end_lem Before next mapped = refl
 flank_end_lem Based next mapped = refl

@@ -8,7 +8,7 @@ use native.Mathlib.Nat.{suc-mul, zero-mul, add-zero, sub-zero}
 use borrow.Author.Tests.{lt-ltb, le-ltb, ltb-true, ltb-false, lt-leb}
 use lib.Dec.{ltb, leb, eqb}
 use lib.ListN.{length}
-use Rattle.refusal.specs.Answers.{fine}
+use Rattle.refusal.specs.Answers.{no_refusal}
 use Rattle.frame.proofs.Tests.{by_test}
 use Rattle.unit.specs.Unit.{class_n, class_m}
 use Rattle.edits.specs.Edits.{deletion, width_of, offset_at, edit_at, edit_list_at, next_offset, deletion_refusal, edit_refusal, Sound}
@@ -19,7 +19,7 @@ use Rattle.edits.proofs.EditLaws.{refused_fine, edit_accepted, edits_on, edits_n
 -- ---- an edit that is accepted in the whole read
 
 -- before the end of a piece it is accepted in the piece
-narrower : (mapped symbols next until : ℕ) (e : Edit) → edit_refusal mapped symbols next e ≡ fine → e.offset < until → edit_refusal until symbols next e ≡ fine
+narrower : (mapped symbols next until : ℕ) (e : Edit) → edit_refusal mapped symbols next e ≡ no_refusal → e.offset < until → edit_refusal until symbols next e ≡ no_refusal
 unfolding edit_refusal deletion_refusal
 narrower mapped symbols next until e z h =
     let o = edit_accepted mapped symbols next e z in
@@ -32,7 +32,7 @@ narrower mapped symbols next until e z h =
     (λ d. simp (a, b, d, le-ltb e.offset next o.order, lt-leb until e.offset h))))
 
 -- from a later offset on it is accepted too, where it does not stand before it
-later : (mapped symbols next start : ℕ) (e : Edit) → edit_refusal mapped symbols next e ≡ fine → start ≤ e.offset → edit_refusal mapped symbols start e ≡ fine
+later : (mapped symbols next start : ℕ) (e : Edit) → edit_refusal mapped symbols next e ≡ no_refusal → start ≤ e.offset → edit_refusal mapped symbols start e ≡ no_refusal
 unfolding edit_refusal deletion_refusal
 later mapped symbols next start e z h =
     let o = edit_accepted mapped symbols next e z in

@@ -1,7 +1,7 @@
 -- The edits of an aligned block (document 01, Lines and Building a read): what one is in each class, and refusals 11, 10 and 12.
 -- Assumes nothing.
 use Rattle.std.specs.Prelude.{ℕ, zero, suc, ◌+◌, ◌-◌, ◌≡◌, cond, List, [], ◌∷◌, ltb, leb, eqb, get_or, ⊤, Err}
-use Rattle.refusal.specs.Answers.{OrRefused, fine}
+use Rattle.refusal.specs.Answers.{OrRefused, no_refusal}
 use Rattle.refusal.specs.declared.Refusal.TheVariants.{SymbolOut, FieldOut, OffsetOut}
 use Rattle.limits.specs.Limits.{edit_bytes}
 use Rattle.frame.specs.Field.{big_at}
@@ -57,7 +57,7 @@ unfoldable pub deletion_refusal : (mapped next symbol offset : ℕ) → OrRefuse
 deletion_refusal mapped next symbol offset =
     unless (eqb symbol no_symbol) (Err FieldOut)
     (cond (ltb offset next) (Err OffsetOut)
-    (cond (ltb mapped offset) (Err OffsetOut) fine))
+    (cond (ltb mapped offset) (Err OffsetOut) no_refusal))
 
 -- in a complete edit type, symbol, offset: `next` is the least offset that may stand here, `size` the alphabet's
 unfoldable pub edit_refusal : (mapped size next : ℕ) → Edit → OrRefused ⊤
@@ -66,12 +66,12 @@ edit_refusal mapped size next e =
     (cond (eqb e.kind deletion) (deletion_refusal mapped next e.symbol e.offset)
     (cond (leb size e.symbol) (Err SymbolOut)
     (cond (ltb e.offset next) (Err OffsetOut)
-    (cond (leb mapped e.offset) (Err OffsetOut) fine))))
+    (cond (leb mapped e.offset) (Err OffsetOut) no_refusal))))
 
 -- each of these edits is accepted where it stands
 unfoldable pub Sound : (mapped size next : ℕ) → List Edit → Type 0
 Sound mapped size next [] = Unit
-Sound mapped size next (e ∷ es) = (edit_refusal mapped size next e ≡ fine) × Sound mapped size (next_offset e) es
+Sound mapped size next (e ∷ es) = (edit_refusal mapped size next e ≡ no_refusal) × Sound mapped size (next_offset e) es
 
 -- the reference positions that an edit takes with the match before it: an insertion takes none of its own (10.6.1, pointer R)
 abbrev pub taken_by : (next : ℕ) → Edit → ℕ

@@ -3,7 +3,7 @@
 -- Offsets count over the mapped bases of the whole read, through all its pieces.
 -- Assumes nothing.
 use Rattle.std.specs.Prelude.{ℕ, zero, suc, ◌+◌, ◌-◌, ◌≡◌, ◌⊎◌, Bool, true, false, cond, not, ◌&&◌, ◌||◌, List, [], ◌∷◌, eqb, ⊤, Err}
-use Rattle.refusal.specs.Answers.{OrRefused, fine}
+use Rattle.refusal.specs.Answers.{OrRefused, no_refusal}
 use Rattle.refusal.specs.declared.Refusal.TheVariants.{OffsetOut}
 use Rattle.frame.specs.Steps.{unless}
 use Rattle.edits.specs.Edits.{insertion, deletion}
@@ -35,7 +35,7 @@ all_flanked mapped es = each_deletion (flanked mapped es) es
 
 -- refusal 12 of all edits of a read together, behind the last of them
 abbrev pub flank_refusal : (mapped : ℕ) → List Edit → OrRefused ⊤
-flank_refusal mapped es = unless (all_flanked mapped es) (Err OffsetOut) fine
+flank_refusal mapped es = unless (all_flanked mapped es) (Err OffsetOut) no_refusal
 
 -- a deletion stands at this offset
 unfoldable pub DeletionAt : (offset : ℕ) → List Edit → Type 0

@@ -21,7 +21,7 @@ pub struct Clips {
 }
 
 impl Clips {
-    // Classes without clips.
+    // Classes without clips. No Default: the name says what the zeros mean.
     pub fn none() -> Clips
         ensures { result ≡ no_clips }
     {
@@ -42,6 +42,7 @@ impl Clips {
 }
 
 // An aligned segment as its block gives it. The soft-clipped bases and the edits stay in the frame, each at its place.
+// Places and no slices, in `Run` too: `edit_list_at` and `letters_at` (specs/) name them. `rcomp` is a number, since it is listed as one (`aligned_bytes`).
 #[derive(Clone, Copy)]
 pub struct Block {
     pub length: u32,
@@ -75,7 +76,7 @@ fn tied() -> [u32; 2]
     [Block::READ, Block::EDITS]
 }
 
-// The run between the clips.
+// The run between the clips. No From, nor for the run of a piece (`run_here`): it is a part of the block, and the block's other fields are lost.
 pub fn run_of(block: Block) -> Run
     ensures { result ≡ run_of block }
 {
@@ -90,6 +91,5 @@ pub fn run_of(block: Block) -> Run
 fn mapped_length(length: u32, clips: Clips) -> u32
     ensures { result ≡ mapped_length length clips }
 {
-    let soft = clips.soft();
-    if length <= soft { 0 } else { length - soft }
+    length.saturating_sub(clips.soft())
 }

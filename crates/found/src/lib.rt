@@ -58,11 +58,11 @@ fn read_edge(file: &File, from: usize, to: usize, edge: &mut [u8]) -> io::Result
 fn record_count(front: FrontRead) -> u32 {
     match front {
         FrontRead::Ready(unit) => unit.records,
-        FrontRead::Unpaired(_, _) | FrontRead::Alone(_) => 0,
+        FrontRead::Unpaired(_, _) | FrontRead::Alone(_) | FrontRead::Unread => 0,
     }
 }
 
-// The first and the last kept line are read again, and put beside the listing's first line.
+// The first and the last kept line are read again, and put beside the listing's first line. Arrays, and how much of them is used: the memory is fixed.
 #[tactic(auto, using(opening::proofs::FirstLaws::first_within))]
 fn look(file: &File, keep: Keep, front: FrontRead, counts: &[u32]) -> io::Result<Found> {
     let mut first = [0u8; EDGE];
@@ -107,6 +107,7 @@ pub fn copy(
     let mut source = Source::new(file);
     let mut read = source.go_to(0);
     let mut left = kept;
+    // No `for`: what is left goes down by as much as was read, which no range steps by.
     while left > 0 {
         read = read.and(source.ready(buf, 1));
         let from = source.at;

@@ -3,13 +3,13 @@
 use mathlib.Core.Path.{◌≡◌, refl, sym, ap, ◌∙◌}
 use mathlib.Core.List.{List, [], ◌∷◌, ◌++◌}
 use Prim.Native.Nat.{ℕ, zero, suc, ◌+◌, ◌*◌, ◌/◌, ◌%◌, ◌^◌, ◌<◌, ◌≤◌}
-use native.Mathlib.Nat.{zero-add, mod-one, pow-suc, one-le-pow, mod-eq_of_lt, pow-le-pow_right, lt_of_lt_of_le}
+use native.Mathlib.Nat.{add-zero, zero-add, zero-mul, mod-one, pow-suc, one-le-pow, mod-eq_of_lt, pow-le-pow_right, lt_of_lt_of_le}
 use native.Mathlib.Numerals.{add-one}
 use native.Mathlib.Omega.{arith}
 use borrow.Author.Tests.{le-leb, lt-leb, leb-true}
 use lib.Arith.{mod-mul}
 use lib.Dec.{leb, lit<}
-use lib.ListN.{length, get_or, get_or-append}
+use lib.ListN.{length, get_or, get_or-append, get_or-eq_default}
 use lib.Seq.{get_or-append-add, get_or_at}
 use Rattle.frame.specs.Hex.{be}
 use Rattle.frame.specs.Field.{Field, big_at, field_at}
@@ -21,6 +21,16 @@ use Rattle.refusal.specs.declared.Refusal.TheVariants.{Misframed}
 use Rattle.frame.proofs.HexLaws.{by_test, length_be, be_add}
 
 -- ---- the number that k bytes stand for
+
+-- two bytes, the high one first
+pub word_is : (s : List ℕ) (at a b : ℕ) → a ≡ get_or s at 0 → b ≡ get_or s (at + 1) 0 → a * 256 + b ≡ big_at 2 s at
+unfolding big_at
+word_is s at a b e f = rw (e, f, add-zero, zero-mul, zero-add)
+
+-- past the end they are 0
+pub word_past : (s : List ℕ) (at : ℕ) → length s ≤ at → big_at 2 s at ≡ 0
+word_past s at h =
+    sym (word_is s at 0 0 (sym (get_or-eq_default {A = ℕ} s 0 {n = at} h)) (sym (get_or-eq_default {A = ℕ} s 0 {n = at + 1} (omega (arith, h)))))
 
 pub big_at_lt : (k : ℕ) (s : List ℕ) (at : ℕ) → ((i : ℕ) → get_or s i 0 < 256) → big_at k s at < 256 ^ k
 unfolding big_at
@@ -80,11 +90,6 @@ field_misframed k s at n e =
     by_test (leb (at + k) (length s))
     (λ t. absurd (let q : ◌≡◌ {A = Field} (Ok (big_at k s at, record { at = at + k })) (Err n) = simp t at e in let z : ◌≡◌ {A = ℕ} 0 1 = cc in omega arith))
     (λ t. let q : ◌≡◌ {A = Field} (Err Misframed) (Err n) = simp t at e in cc)
-
--- a field that is complete is not short
-pub never_short : {P : Type 0} (k : ℕ) (s : List ℕ) (at : ℕ) {n : Refusal} → at + k ≤ length s → Err n ≡ field_at k s at → P
-unfolding field_at
-never_short k s at {n} h e = absurd (let q : ◌≡◌ {A = Field} (Err n) (Ok (big_at k s at, record { at = at + k })) = simp (le-leb (at + k) (length s) h) at e in let z : ◌≡◌ {A = ℕ} 0 1 = cc in omega arith)
 
 -- its number fits its bytes
 pub value_fits : (k v : ℕ) (c : Cursor) {answer : Field} → Narrow k answer → answer ≡ Ok (v, c) → v < 256 ^ k

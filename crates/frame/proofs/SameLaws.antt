@@ -1,15 +1,14 @@
 -- The laws of comparing two lists: what the outcome says, and one comparison more of a scan.
 -- Assumes nothing.
-use Prim.Native.Nat.{ℕ, ◌+◌, ◌≤◌, ◌<◌}
-use native.Mathlib.Numerals.{add-one}
+use Prim.Native.Nat.{ℕ, ◌<◌}
 use native.Mathlib.Omega.{arith}
 use mathlib.Core.Path.{◌≡◌, refl, sym, ap, ◌∙◌}
 use mathlib.Core.Bool.{Bool, true, false}
 use mathlib.Core.List.{List, [], ◌∷◌}
-use lib.ListN.{length, get_or, take, drop, drop_of_length-le}
-use lib.Seq.{drop-cons, take_all, length-take-le}
+use lib.ListN.{length, take}
+use lib.Seq.{take_all, length-take-le}
 use lib.Dec.{eqb, leb}
-use borrow.Author.Tests.{eq-eqb, ne_eqb, eqb-true, leb-true, leb-false}
+use borrow.Author.Tests.{eq-eqb, eqb-true, leb-true, leb-false}
 use Rattle.frame.specs.Same.{same_list}
 use Rattle.frame.proofs.Tests.{by_test, false_true}
 
@@ -42,20 +41,6 @@ same_not a b e h = false_true {P = ⊥} (sym e ∙ ap (same_list a) (sym h) ∙ 
 
 pub same_longer : (a b : List ℕ) → (length a ≡ length b → ⊥) → same_list a b ≡ false
 same_longer a b h = same_false a b (λ e. h (ap length e))
-
-module _ (a b : List ℕ) (i : ℕ) where
-  pub same_over : length a ≤ i → length b ≤ i → same_list (drop i a) (drop i b) ≡ true
-  unfolding same_list
-  same_over h k = rw (drop_of_length-le a {i = i} h, drop_of_length-le b {i = i} k)
-
-  module _ (h : i < length a) (k : i < length b) where
-    pub same_stops : (get_or a i 0 ≡ get_or b i 0 → ⊥) → same_list (drop i a) (drop i b) ≡ false
-    unfolding same_list
-    same_stops e = rw (drop-cons a i 0 h, drop-cons b i 0 k, ne_eqb _ _ e)
-
-    pub same_goes : get_or a i 0 ≡ get_or b i 0 → same_list (drop i a) (drop i b) ≡ same_list (drop (i + 1) a) (drop (i + 1) b)
-    unfolding same_list
-    same_goes e = rw (drop-cons a i 0 h, drop-cons b i 0 k, eq-eqb _ _ e, add-one)
 
 -- so much of the first as the second is long, and one byte more, is enough
 pub same_near : (n : ℕ) (a b : List ℕ) → length b < n → same_list (take n a) b ≡ same_list a b

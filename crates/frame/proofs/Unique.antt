@@ -7,7 +7,7 @@ use lib.ListN.{length, take, get_or}
 use Rattle.frame.specs.Hex.{unhex}
 use Rattle.frame.specs.Line.{line_within}
 use Rattle.frame.specs.Next.{next_line}
-use Rattle.frame.specs.Field.{Field, field_at}
+use Rattle.frame.specs.Field.{Field, big_at, field_at}
 use Rattle.frame.specs.Steps.{stored_at}
 use Rattle.refusal.specs.Answers.{OrRefused}
 use Rattle.frame.specs.declared.line.Next.{Next}
@@ -23,8 +23,12 @@ line_once most s p q = once p q
 pub next_line_once : (s : List ℕ) {x y : Next} → x ≡ next_line s → y ≡ next_line s → x ≡ y
 next_line_once s p q = once p q
 
-pub byte_at_once : (l : List ℕ) (i : ℕ) {x y : ℕ} → x ≡ get_or (unhex l) i 0 → y ≡ get_or (unhex l) i 0 → x ≡ y
-byte_at_once l i p q = once p q
+-- `byte_at`, of digits and of bytes
+pub byte_at_once : (frame : List ℕ) (i : ℕ) {x y : ℕ} → x ≡ get_or frame i 0 → y ≡ get_or frame i 0 → x ≡ y
+byte_at_once frame i p q = once p q
+
+pub word_at_once : (frame : List ℕ) (at : ℕ) {x y : ℕ} → x ≡ big_at 2 frame at → y ≡ big_at 2 frame at → x ≡ y
+word_at_once frame at p q = once p q
 
 -- `read_u8`, `read_u16`, `read_u32`, of digits and of bytes: for every width
 pub field_once : (k : ℕ) (frame : List ℕ) (at : ℕ) {x y : Field} → x ≡ field_at k frame at → y ≡ field_at k frame at → x ≡ y

@@ -1,7 +1,7 @@
 // Fields of a frame, read from its bytes or straight from the line's digits. Numbers are unsigned, high byte first.
-ghost use Rattle.std.specs.Prelude.{◌≡◌, ◌≤◌, ◌<◌, List, ℕ, length, get_or};
+ghost use Rattle.std.specs.Prelude.{◌≡◌, ◌≤◌, ◌<◌, ◌^◌, List, ℕ, length, get_or};
 ghost use Rattle.frame.specs.Hex.{nib, unhex};
-ghost use Rattle.frame.specs.Field.{field_at};
+ghost use Rattle.frame.specs.Field.{big_at, field_at};
 ghost use Rattle.frame.specs.Code.Narrow.{Narrow};
 
 use refusal::Refusal;
@@ -12,23 +12,11 @@ pub struct Cursor {
     pub at: usize,
 }
 
-// The value of a digit: its low four bits, and 9 more for a letter. No test, so no branch that is guessed wrong.
+// The value of a digit: its low four bits, and 9 more for a letter. No test, so no branch that is guessed wrong; `to_digit` has one, and takes a char.
 pub(crate) fn nibble(d: u8) -> u8
     ensures { result ≡ nib d }
 {
     (d % 16 + d / 64 * 9) % 16
-}
-
-// The i-th byte of the frame; 0 past its end.
-pub fn byte_at(line: &[u8], i: usize) -> u8
-    ensures { result ≡ get_or (unhex line.now) i 0 }
-{
-    if i < line.len() / 2 {
-        let a = i * 2;
-        nibble(line[a]) * 16 + nibble(line[a + 1])
-    } else {
-        0
-    }
 }
 
 // A frame, as its bytes stand somewhere: decoded, or as the digits of its line.
@@ -69,11 +57,29 @@ impl<'a> Frame for Digits<'a> {
     }
 
     fn byte(&self, i: usize) -> u8 {
-        byte_at(self.0, i)
+        let a = i * 2;
+        nibble(self.0[a]) * 16 + nibble(self.0[a + 1])
     }
 }
 
-// A field of k bytes and the place behind it, or a frame that ends before it is complete: the readers below are this at one width each.
+// The i-th byte of a frame; 0 past its end.
+pub fn byte_at<F: Frame + Copy>(frame: F, i: usize) -> u8
+    ensures { result ≡ get_or (F.bytes frame) i 0 }
+{
+    if i < frame.count() { frame.byte(i) } else { 0 }
+}
+
+// The two bytes from a place on as a number; what is past the frame's end counts as 0.
+pub fn word_at<F: Frame + Copy>(frame: F, at: usize) -> u32
+    ensures { (result ≡ big_at 2 (F.bytes frame) at) × (result < 2 ^ 16) }
+{
+    if frame.count() <= at {
+        return 0;
+    }
+    u32::from(byte_at(frame, at)) * 256 + u32::from(byte_at(frame, at + 1))
+}
+
+// A field of k bytes and the place behind it, or a frame that ends before it is complete: the readers below are this at one width each, which is why no `from_be_bytes` stands here: it has one width.
 fn read_wide<F: Frame + Copy>(frame: F, c: Cursor, k: usize) -> Result<(u32, Cursor), Refusal>
     requires { k ≤ 4 }
     ensures { (result ≡ field_at k (F.bytes frame) c.at) × Narrow k result }

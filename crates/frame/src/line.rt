@@ -33,7 +33,7 @@ impl Line {
     }
 }
 
-// What stands at the front of a slice.
+// What stands at the front of a slice. No Result: a line too long or without 0A is handed on all the same, to be refused as such (`bytes_by` in specs of stream).
 #[derive(Clone, Copy)]
 pub enum Next {
     // A line of so many bytes, its 0A among them.
@@ -52,7 +52,7 @@ fn below(a: u8, b: u8) -> u8
     u8::from(a < b)
 }
 
-// How often a byte is on the wrong side of two others: 0 from `first` to `last`, else 1 where first is at most last.
+// How often a byte is on the wrong side of two others: 0 from `first` to `last`, else 1 where first is at most last. A sum and no `&&`, so that `has_other` has no branch.
 fn outside(d: u8, first: u8, last: u8) -> u8
     ensures { result ≡ cond (ltb d first) 1 0 + cond (ltb last d) 1 0 }
 {

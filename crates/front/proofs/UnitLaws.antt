@@ -8,7 +8,7 @@ use borrow.Author.Tests.{le-ltb}
 use lib.Dec.{lit<}
 use lib.ListN.{length, length-append, drop_of_length-le}
 use Rattle.std.specs.Prelude.{Ok, Err}
-use Rattle.refusal.specs.Answers.{OrRefused, fine}
+use Rattle.refusal.specs.Answers.{OrRefused, no_refusal}
 use Rattle.refusal.specs.declared.Refusal.{Refusal}
 use Rattle.frame.specs.Line.{line_digits, line_of, line_of_bytes}
 use Rattle.frame.specs.Field.{big_at}
@@ -59,7 +59,7 @@ pub record IsUnit (line : List ℕ) (u : Unit) : Type 0 where
   pub kind : big_at 1 (unhex line) 0 ≡ kind_unit
   pub long : length (unhex line) ≡ unit_line_bytes
   pub fields : u ≡ unit_at (unhex line)
-  pub valid : unit_refusal u ≡ fine
+  pub valid : unit_refusal u ≡ no_refusal
 
 -- the last fields
 record IsEnds (s : List ℕ) (class alphabet segments sequence first : ℕ) (u : Unit) : Type 0 where
@@ -107,7 +107,7 @@ unit_accepted line u e =
     }
 
 -- an accepted unit is within its values
-pub unit_valid : (line : List ℕ) (u : Unit) → Ok u ≡ unit_line line → unit_refusal u ≡ fine
+pub unit_valid : (line : List ℕ) (u : Unit) → Ok u ≡ unit_line line → unit_refusal u ≡ no_refusal
 unit_valid line u e = (unit_accepted line u e).valid
 
 -- and its numbers fit their fields; the others are within their values
@@ -161,7 +161,7 @@ unfolding unit_bytes
 nested u = simp (append_assoc, append-nil)
 
 -- the line of a unit within its values is read back as the unit
-pub unit_back : (u : Unit) → unit_refusal u ≡ fine → UnitFits u → unit_line (line_of_bytes (unit_bytes u)) ≡ Ok u
+pub unit_back : (u : Unit) → unit_refusal u ≡ no_refusal → UnitFits u → unit_line (line_of_bytes (unit_bytes u)) ≡ Ok u
 unfolding unit_line unit_class unit_template unit_ends
 unit_back u valid fits =
     let bs = unit_bytes u in

@@ -5,7 +5,7 @@ ghost use Rattle.frame.specs.Field.{big_at};
 ghost use Rattle.frame.specs.Steps.{stored_at};
 ghost use Rattle.front.specs.PairLine.{pair_line, pair_count, pair_symbols, symbol_list, symbol_bytes, pair_head, table_after};
 
-use frame::field::{Cursor, Digits, read_u8, read_u16, read_u32};
+use frame::field::{Cursor, Digits, byte_at, read_u8, read_u16};
 use frame::line::line_of;
 use refusal::Refusal;
 use unit::Pairs;
@@ -70,13 +70,16 @@ fn symbol_at(line: &[u8], at: usize) -> u32
     requires { at + symbol_bytes ≤ length (unhex line.now) }
     ensures { result ≡ big_at symbol_bytes (unhex line.now) at }
 {
-    match read_u32(Digits(line), Cursor { at }) {
-        Ok((v, _)) => v,
-        Err(_) => 0,
-    }
+    let frame = Digits(line);
+    u32::from_be_bytes([
+        byte_at(frame, at),
+        byte_at(frame, at + 1),
+        byte_at(frame, at + 2),
+        byte_at(frame, at + 3),
+    ])
 }
 
-// The first count symbols of the line, into the table from a place on.
+// The first count symbols of the line, into the table from a place on. The flat table with a place in it is what C lends, and what `stored_at` (specs/) speaks of.
 fn lay_symbols(line: &[u8], table: &mut [u32], place: usize, count: usize)
     requires count_in_bounds { pair_head + symbol_bytes * count ≤ length (unhex line.now) }
     requires count_in_bounds_2 { place + count ≤ length table.old }

@@ -20,7 +20,7 @@ fn tied() -> usize
     BASES
 }
 
-// The answer to n bases more, where places are lent and used of them hold a base.
+// The answer to n bases more, where places are lent and used of them hold a base: C lends its whole reference, and `used` beside it, with each line.
 fn add_bases(n: usize, used: usize, places: usize) -> Result<usize, Refusal>
     ensures { result ≡ added_bases n used places }
 {
@@ -66,7 +66,7 @@ fn lay_bases(line: &[u8], reference: &mut [u8], used: usize)
     ensures { reference.new ≡ stored_at reference.old used (bases_of (unhex line.now)) }
 {
     for i in 1..line.len() / 2 {
-        reference[used + i - 1] = byte_at(line, i);
+        reference[used + i - 1] = byte_at(Digits(line), i);
     }
 }
 

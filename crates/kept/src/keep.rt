@@ -5,7 +5,7 @@ ghost use Rattle.kept.specs.Code.Run.{keep_run};
 
 use frame::line::Line;
 
-// What is known of the bytes that are read so far.
+// What is known of the bytes that are read so far. Numbers and a flag, no Option: C carries them from call to call, as `keep_of` and `keep_numbers` have them.
 #[derive(Clone, Copy)]
 pub struct Keep {
     // The length of the first kept line, or 0.
@@ -31,6 +31,7 @@ impl Keep {
         Keep::BYTES
     }
 
+    // No Default: the name says that it is a file of which nothing is read (`fresh` in specs/).
     pub fn new() -> Keep
         ensures { result ≡ fresh }
     {

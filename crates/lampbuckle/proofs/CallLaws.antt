@@ -11,7 +11,7 @@ use borrow.Author.Tests.{ltb-true, eqb-true, eq-eqb}
 use Rattle.std.specs.Prelude.{⊤, Ok, Err}
 use Rattle.refusal.specs.declared.Refusal.{Refusal}
 use Rattle.refusal.specs.Numbers.{number_of}
-use Rattle.refusal.specs.Answers.{OrRefused, fine}
+use Rattle.refusal.specs.Answers.{OrRefused, no_refusal}
 use Rattle.refusal.proofs.AnswerLaws.{never_accepted}
 use Rattle.frame.proofs.HexLaws.{by_test}
 use Rattle.unit.specs.Unit.{most_records}
@@ -78,10 +78,10 @@ room_taken (accepted g s) room frame next e =
 module _ (u : Unit) (reference symbols counts state line : List ℕ) (room : ℕ) {frame : List ℕ} {next : State}
     (e : record_of u reference symbols counts (state_of state) line room ≡ accepted frame next) where
   -- what is lent is accepted
-  lent_fine : lent_refusal u (length reference) (length symbols) counts (state_of state) ≡ fine
+  lent_fine : lent_refusal u (length reference) (length symbols) counts (state_of state) ≡ no_refusal
   lent_fine = by (lent_refusal u (length reference) (length symbols) counts (state_of state)) refl
     where
-      by : (r : OrRefused ⊤) → lent_refusal u (length reference) (length symbols) counts (state_of state) ≡ r → lent_refusal u (length reference) (length symbols) counts (state_of state) ≡ fine
+      by : (r : OrRefused ⊤) → lent_refusal u (length reference) (length symbols) counts (state_of state) ≡ r → lent_refusal u (length reference) (length symbols) counts (state_of state) ≡ no_refusal
       by (Ok t) q = q
       by (Err n) q = absurd (differs (sym (lent_refused u reference symbols counts (state_of state) refl line room n q) ∙ e))
 

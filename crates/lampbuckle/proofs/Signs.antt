@@ -13,7 +13,7 @@ use Rattle.std.specs.Prelude.{⊤, Ok, Err}
 use Rattle.refusal.specs.declared.Refusal.{Refusal}
 use Rattle.refusal.specs.declared.Refusal.TheVariants.{UnitOut, CountOut, Missing, OtherFirst, OtherLast, NoRoom}
 use Rattle.refusal.specs.Numbers.{number_of, InTable}
-use Rattle.refusal.specs.Answers.{OrRefused, fine}
+use Rattle.refusal.specs.Answers.{OrRefused, no_refusal}
 use Rattle.refusal.proofs.RefusalLaws.{in_table}
 use Rattle.refusal.proofs.AnswerLaws.{never_refused}
 use Rattle.frame.proofs.HexLaws.{by_test}
@@ -136,7 +136,7 @@ written_signed frame out =
     (λ t. rw t (is_accepted (ltb-true _ _ t) (pos_told (2 * length frame + 1) refl)))
     (λ t. rw t (signed_refused (λ o. omega (arith, ltb-false (2 * length frame) (length out) t)) (minus_told NoRoom refl)))
 
-pub unit_written_signed : (numbers out : List ℕ) → Signed (unit_written numbers out) ((unit_numbers_refusal numbers ≡ fine) × (2 * length (unit_bytes (unit_of numbers)) < length out))
+pub unit_written_signed : (numbers out : List ℕ) → Signed (unit_written numbers out) ((unit_numbers_refusal numbers ≡ no_refusal) × (2 * length (unit_bytes (unit_of numbers)) < length out))
 unfolding unit_written
 unit_written_signed numbers out = by (unit_numbers_refusal numbers)
   where
@@ -144,7 +144,7 @@ unit_written_signed numbers out = by (unit_numbers_refusal numbers)
     both a (is_accepted o c) = is_accepted (a, o) c
     both a (signed_refused f c) = signed_refused (λ o. f o.1) c
 
-    by : (r : OrRefused ⊤) → Signed (after_numbers r out (written_call (unit_bytes (unit_of numbers)) out)) ((r ≡ fine) × (2 * length (unit_bytes (unit_of numbers)) < length out))
+    by : (r : OrRefused ⊤) → Signed (after_numbers r out (written_call (unit_bytes (unit_of numbers)) out)) ((r ≡ no_refusal) × (2 * length (unit_bytes (unit_of numbers)) < length out))
     by (Ok t) = both refl (written_signed (unit_bytes (unit_of numbers)) out)
     by (Err n) = signed_refused (λ o. never_refused o.0) (minus_told n refl)
 

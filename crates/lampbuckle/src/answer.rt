@@ -6,7 +6,7 @@ ghost use Rattle.lampbuckle.specs.Code.Countable.{Countable};
 
 use refusal::Refusal;
 
-// So many: of bytes, of symbols, of bases.
+// So many: of bytes, of symbols, of bases. No TryFrom: it fits by what is required, and an error would have no answer.
 pub(crate) fn counted(n: usize) -> i64
     requires { n < 2 ^ 63 }
     ensures { result ≡ pos n }
@@ -14,7 +14,7 @@ pub(crate) fn counted(n: usize) -> i64
     n as i64
 }
 
-// Minus the number of a refusal.
+// Minus the number of a refusal. No From: C reads the sign, and an i64 alone does not say what it is of.
 pub(crate) fn refused(refusal: Refusal) -> i64
     ensures { result ≡ minus (number_of refusal) }
 {

@@ -1,11 +1,11 @@
-// A unit and what is known of a found file, as the numbers that a caller lends.
+// A unit and what is known of a found file, as the numbers that a C caller lends, in the order that its header has: `unit_of` and `keep_of` in specs/ name each.
 ghost use Rattle.std.specs.Prelude.{◌≡◌, [], ◌∷◌, length};
 ghost use Rattle.lampbuckle.specs.Numbers.{unit_length, keep_length, unit_of, unit_numbers, keep_of, keep_numbers};
 
 use kept::keep::Keep;
 use unit::Unit;
 
-// How many numbers a unit is.
+// How many numbers a unit is: C lends it as a slice of so many, and the next as well.
 pub const UNIT: usize = 8;
 
 // What is known of a found file.

@@ -11,7 +11,7 @@ use resuming::place::Go;
 use state::{State, numbers as state_numbers};
 use unit::Pairs;
 
-// Where to go on, as a number: the whole listing is added, or all behind its first line, or all behind a record, or nothing.
+// Where to go on, as a number: the whole listing is added, or all behind its first line, or all behind a record, or nothing. C gets these numbers.
 const AFRESH: usize = 0;
 
 const SECOND: usize = 1;
@@ -53,7 +53,7 @@ fn go_on(number: usize, next: State, state: &mut [u32]) -> i64
     counted(number)
 }
 
-// A place that was found, by its number, with the state to go on from; or the refusal.
+// A place that was found, by its number, with the state to go on from; or the refusal. C takes it as an integer and numbers.
 fn settle(go: Go, state: &mut [u32]) -> i64
     requires { length state.old ≡ state_length }
     ensures { outcome result (state.new ∷ []) ≡ place_answered go state.old }

@@ -1,4 +1,4 @@
-// The exports: each calls the function of lampbuckle with its name, and promises the same.
+// The exports: each calls the function of lampbuckle with its name, and promises the same. The C interface needs one for each, in a static library.
 #![tactic(auto)]
 
 ghost use Rattle.std.specs.Prelude.{◌≡◌, [], ◌∷◌};

@@ -50,7 +50,7 @@ impl Limit {
     // The most bytes that list a segment.
     pub const SEGMENT: usize = Limit::SEGMENT_FIELDS + Limit::READ + Limit::ECIGAR;
 
-    // Each number is its name in specs/: proved, and called by nothing.
+    // Each number is its name in specs/: proved, and called by nothing. Every crate with numbers has such a function, since what ties them are names of its own.
     fn tied() -> [usize; 12]
         ensures { result ≡ most_segments ∷ most_read ∷ most_edits ∷ most_pieces ∷ most_splice ∷ most_ecigar ∷ record_fields ∷ block_fields ∷ edit_bytes ∷ most_frame ∷ segment_fields ∷ most_segment_bytes ∷ [] }
     {

@@ -35,6 +35,7 @@ fn list(rt: &HostRuntime, reference_path: &[u8], unit_path: &[u8]) -> Result<(),
     rest(&mut files, State::fresh(), &mut sink)
 }
 
+// The same in resume, and no function for both: the paths lie in arrays of each program, since no memory is asked for.
 fn list_named(rt: &HostRuntime) -> Result<(), Failed> {
     let mut reference = path_buffer();
     let mut unit = path_buffer();

@@ -29,27 +29,21 @@ fn tied_number() -> u32
     NO_RECORD
 }
 
+// The C interface has a call for each of the two lines; what is alike in them is `write_line`.
 // The low two bytes of the record number, and the low byte of the refusal number.
 fn bytes_05(number: u32, refusal: u32) -> [u8; BYTES_05]
     ensures { result ≡ frame05 number refusal }
 {
-    [
-        (Kind::REFUSED % 256) as u8,
-        (number / 256 % 256) as u8,
-        (number % 256) as u8,
-        (refusal % 256) as u8,
-    ]
+    let [_, _, high, low] = number.to_be_bytes();
+    [Kind::REFUSED as u8, high, low, refusal.to_be_bytes()[3]]
 }
 
 // The low two bytes of the record count.
 fn bytes_06(count: u32) -> [u8; BYTES_06]
     ensures { result ≡ frame06 count }
 {
-    [
-        (Kind::DONE % 256) as u8,
-        (count / 256 % 256) as u8,
-        (count % 256) as u8,
-    ]
+    let [_, _, high, low] = count.to_be_bytes();
+    [Kind::DONE as u8, high, low]
 }
 
 // An 05 line.

@@ -10,20 +10,23 @@ use std::ops::Range;
 use stream::source::Source;
 use unit::{Pairs, Unit};
 
-// How far the front can be read.
+// How far the front can be read. A refusal is its number, as in an 05 line: `write_first` answers for any number.
 #[derive(Clone, Copy)]
 pub enum FrontRead {
-    // A reference line is refused, or the unit line is refused or missing: the 05 line stands alone.
-    Alone(Refusal),
+    // A file cannot be read. `open` says so and answers Failed, so that nothing builds it there; `write_first` answers for it, as docs/PROMISES.md has it.
+    Unread,
+    // A reference line is refused, or the unit line is refused or missing: the 05 line with this number stands alone.
+    Alone(u32),
     // A pair line behind this unit line is refused or missing.
-    Unpaired(Unit, Refusal),
+    Unpaired(Unit, u32),
     Ready(Unit),
 }
 
-// How many symbols each pair line laid.
+// How many symbols each pair line laid. Beside the symbols and not with them, as the calls that C has too take both.
 type Counts = [u32; Pairs::SUBSEQUENCES];
 
 // What the two files come to: the bases of the reference, none where a line of it is refused, and the symbols of the pair lines.
+// The counts stand beside a refused front too, as zeros: a resume asks for them then as well (`find` of found).
 #[derive(Drop)]
 pub struct OpenFiles<'f, 'b> {
     pub front: FrontRead,
@@ -108,14 +111,14 @@ fn read_unit(
     let none = [0u32; Pairs::SUBSEQUENCES];
     let line = source.take(buf)?;
     if line.is_empty() {
-        return Ok((FrontRead::Alone(Refusal::Missing), none));
+        return Ok((FrontRead::Alone(u32::from(Refusal::Missing)), none));
     }
     match unit_line::read(&buf[line]) {
         Ok(unit) => match read_pairs(source, buf, symbols)? {
             Ok(counts) => Ok((FrontRead::Ready(unit), counts)),
-            Err(refusal) => Ok((FrontRead::Unpaired(unit, refusal), none)),
+            Err(refusal) => Ok((FrontRead::Unpaired(unit, u32::from(refusal)), none)),
         },
-        Err(refusal) => Ok((FrontRead::Alone(refusal), none)),
+        Err(refusal) => Ok((FrontRead::Alone(u32::from(refusal)), none)),
     }
 }
 
@@ -142,7 +145,11 @@ pub fn open<'f, 'b>(
             ))?;
             (bases, front, counts)
         }
-        Err(refusal) => (0, FrontRead::Alone(refusal), [0u32; Pairs::SUBSEQUENCES]),
+        Err(refusal) => (
+            0,
+            FrontRead::Alone(u32::from(refusal)),
+            [0u32; Pairs::SUBSEQUENCES],
+        ),
     };
     Ok(OpenFiles {
         front,

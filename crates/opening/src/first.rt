@@ -16,8 +16,9 @@ pub fn write_first(out: &mut [u8], front: FrontRead) -> Result<usize, Refusal>
     ensures out_after { out.new ≡ first_into out.old front }
 {
     match front {
-        FrontRead::Alone(refusal) => close::write_refused(out, 0, u32::from(refusal)),
+        FrontRead::Alone(n) => close::write_refused(out, 0, n),
         FrontRead::Unpaired(unit, _) | FrontRead::Ready(unit) => unit_line::write(out, unit),
+        FrontRead::Unread => Err(Refusal::NoRoom),
     }
 }
 

@@ -14,7 +14,8 @@ use Rattle.unit.specs.Unit.{largest16}
 use Rattle.pairing.specs.declared.Mate.{Mate}
 use Rattle.pairing.specs.declared.Link.{Link}
 use Rattle.taking.specs.Steps.{Steps, sets, takes, within16, reserved, decode}
-use Rattle.taking.specs.Take.{take_of}
+use Rattle.taking.specs.Take.{take_of, narrow_of}
+use Rattle.taking.proofs.Decoding.{decode_narrow}
 use Rattle.pairing.specs.Table60.{Decoded}
 use Rattle.pairing.specs.Pairing.{paired}
 
@@ -38,6 +39,14 @@ module _ (x : OrRefused (Link × State)) (symbols counts : List ℕ) (st : State
     pub decode_missing : (n : Refusal) → r ≡ Err n → x ≡ Err n → x ≡ paired (decode symbols counts st (takes s go_on))
     unfolding decode
     decode_missing n h k = rw (← e, h) k
+
+  -- a symbol of at most 16 bits that the code took as r
+  module _ (r : OrRefused (ℕ × State)) (s : ℕ) (go_on : ℕ → Steps Decoded) (e : r ≡ narrow_of symbols counts st s) where
+    pub narrow_given : (v : ℕ) (next : State) → r ≡ Ok (v, next) → x ≡ paired (decode symbols counts next (go_on v)) → x ≡ paired (decode symbols counts st (takes s (λ v. within16 v (go_on v))))
+    narrow_given v next h k = rw (decode_narrow symbols counts st s go_on, ← e, h) k
+
+    pub narrow_missing : (n : Refusal) → r ≡ Err n → x ≡ Err n → x ≡ paired (decode symbols counts st (takes s (λ v. within16 v (go_on v))))
+    narrow_missing n h k = rw (decode_narrow symbols counts st s go_on, ← e, h) k
 
   -- a value of at most 16 bits, or more
   module _ (v : ℕ) (p : Steps Decoded) where

@@ -23,7 +23,7 @@ pub enum Mate {
     Far(u32, u32),
 }
 
-// What a record's pair symbols say: read1First, splitMate, the record's segments, and its mate.
+// What a record's pair symbols say: read1First, splitMate, the record's segments, and its mate. All but the mate are only listed, as these numbers (`link_bytes`).
 #[derive(Clone, Copy)]
 pub struct Link {
     pub first: u32,

@@ -7,7 +7,7 @@ ghost use Rattle.taking.specs.Steps.{decode};
 use crate::{Link, Mate};
 use refusal::Refusal;
 use state::State;
-use taking::take;
+use taking::{take, take_narrow};
 use unit::Unit;
 
 // Class U has no aligned mate.
@@ -20,7 +20,7 @@ fn mate_at(class: u32, sequence: u32, position: u32) -> Mate
     Mate::Far(sequence, position)
 }
 
-// The low bit of a value from subsequence 1 says that read 1 is the second.
+// The low bit of a value from subsequence 1 says that read 1 is the second. A number of a number: a truth between them would be one step more.
 fn read_first(v: u32) -> u32
     ensures { result ≡ read_first v }
 {
@@ -35,10 +35,7 @@ pub(crate) fn half_mapped(
 ) -> Result<(Link, State), Refusal>
     ensures { result ≡ paired (decode symbols.now counts.now state HM_same_rec) }
 {
-    let (v, next) = take(symbols, counts, state, 1)?;
-    if Unit::LARGEST16 < v {
-        return Err(Refusal::ValueOut);
-    }
+    let (v, next) = take_narrow(symbols, counts, state, 1)?;
     Ok((Link::new(read_first(v), 0, 2, Mate::Unpaired), next))
 }
 
@@ -54,10 +51,7 @@ fn same_rec(
     if class == Unit::U {
         return Ok((Link::new(1, 0, 2, Mate::Unpaired), state));
     }
-    let (v, next) = take(symbols, counts, state, 1)?;
-    if Unit::LARGEST16 < v {
-        return Err(Refusal::ValueOut);
-    }
+    let (v, next) = take_narrow(symbols, counts, state, 1)?;
     Ok((Link::new(read_first(v), 0, 2, Mate::Near(v / 2)), next))
 }
 
@@ -100,7 +94,7 @@ fn diff_ref_seq(
     split(class, sequence, symbols, counts, next, q, first)
 }
 
-// The row of a code; `state` has the code taken.
+// The row of a code; `state` has the code taken. The numbers are those of Table 60, and each stands here alone. A match, since each row takes other values.
 pub(crate) fn by_code(
     class: u32,
     sequence: u32,

@@ -12,7 +12,7 @@ use lib.ListN.{length}
 use Rattle.std.specs.Prelude.{⊤, Ok, Err}
 use Rattle.refusal.specs.declared.Refusal.{Refusal}
 use Rattle.refusal.specs.declared.Refusal.TheVariants.{PositionOut}
-use Rattle.refusal.specs.Answers.{OrRefused, fine, checked}
+use Rattle.refusal.specs.Answers.{OrRefused, no_refusal, checked}
 use Rattle.refusal.proofs.AnswerLaws.{never_accepted, past_checked}
 use Rattle.frame.proofs.Tests.{by_test}
 use Rattle.unit.specs.declared.Unit.{Unit}
@@ -69,10 +69,10 @@ module _ (u : Unit) (reference : List ℕ) (least : ℕ) (p : Piece) where
     pub found_outside : (n : Refusal) → place_refusal u.start u.end position taken ≡ Err n → Err n ≡ piece_found u reference least p
     found_outside n q = found_by n (rw (place_is, q) refl)
 
-    pub found_unknown : (n : Refusal) → place_refusal u.start u.end position taken ≡ fine → piece_refusal u.alphabet reference u.first p ≡ Err n → Err n ≡ piece_found u reference least p
+    pub found_unknown : (n : Refusal) → place_refusal u.start u.end position taken ≡ no_refusal → piece_refusal u.alphabet reference u.first p ≡ Err n → Err n ≡ piece_found u reference least p
     found_unknown n z q = found_by n (rw (place_is, z, q) refl)
 
-    pub found_fine : (splice : ℕ) → place_refusal u.start u.end position taken ≡ fine → piece_refusal u.alphabet reference u.first p ≡ fine → splice + text ≡ text_of_piece u.alphabet least p
+    pub found_fine : (splice : ℕ) → place_refusal u.start u.end position taken ≡ no_refusal → piece_refusal u.alphabet reference u.first p ≡ no_refusal → splice + text ≡ text_of_piece u.alphabet least p
         → Ok record { end = position + taken; text = splice + text } ≡ piece_found u reference least p
     unfolding piece_found
     found_fine splice z y q = rw (place_is, z, y, k.is, k.takes, q) refl
@@ -88,7 +88,7 @@ module _ (u : Unit) (reference : List ℕ) where
 
     -- what an accepted one leaves
     record Accepted (r : PieceFound) : Type 0 where
-      pub nothing : placed_piece u reference least p ≡ fine
+      pub nothing : placed_piece u reference least p ≡ no_refusal
       pub end_is : r.end ≡ end_of p
       pub text_is : r.text ≡ text_of_piece u.alphabet least p
 
@@ -112,9 +112,6 @@ module _ (u : Unit) (reference : List ℕ) where
         let n = a.nothing in
         let s = add_assoc text (text_of_piece u.alphabet least p) (text_behind u.alphabet (least_behind p) ps) in
         rw (n, e, t, s) refl
-
-    pub piece_end : (r : PieceFound) → x ≡ Ok r → r.end ≡ end_of p
-    piece_end r h = (accepted r h).end_is
 
     pub piece_text : (r : PieceFound) → x ≡ Ok r → r.text ≡ text_of_piece u.alphabet least p
     piece_text r h = (accepted r h).text_is

@@ -4,7 +4,7 @@ use mathlib.Core.Path.{◌≡◌}
 use Prim.Native.Nat.{ℕ, ◌+◌, ◌≤◌}
 use borrow.Author.Tests.{ltb-false}
 use lib.Dec.{ltb}
-use Rattle.refusal.specs.Answers.{fine}
+use Rattle.refusal.specs.Answers.{no_refusal}
 use Rattle.refusal.proofs.AnswerLaws.{never_refused}
 use Rattle.frame.proofs.HexLaws.{by_test}
 use Rattle.pieces.specs.Place.{place_refusal}
@@ -14,7 +14,7 @@ pub record Inside (start end position taken : ℕ) : Type 0 where
   pub to : position ≤ end
   pub last : position + taken ≤ end + 1
 
-pub place_inside : (start end position taken : ℕ) → place_refusal start end position taken ≡ fine → Inside start end position taken
+pub place_inside : (start end position taken : ℕ) → place_refusal start end position taken ≡ no_refusal → Inside start end position taken
 unfolding place_refusal
 place_inside start end position taken q =
     by_test (ltb position start) (λ a. never_refused (simp a at q))

@@ -28,10 +28,6 @@ each_first (cons _ h more) = h
 pub each_others : {P : Piece → Type 0} {p : Piece} {ps : List Piece} → EachPiece P (p ∷ ps) → EachPiece P ps
 each_others (cons _ h more) = more
 
-pub spans_first : (from to : ℕ) (p : Piece) (ps : List Piece) → Spans from (p ∷ ps) to → p.start ≡ from
-unfolding Spans
-spans_first from to p ps s = s.0
-
 pub spans_others : (from to : ℕ) (p : Piece) (ps : List Piece) → Spans from (p ∷ ps) to → Spans p.until ps to
 unfolding Spans
 spans_others from to p ps s = s.1

@@ -1,7 +1,7 @@
 -- What is refused of a read's pieces behind its last edit (document 02, Wish 1; decision 78): piece by piece its place in the unit (13), then the reference under its matches (10).
 -- Assumes nothing.
 use Rattle.std.specs.Prelude.{ℕ, ◌+◌, cond, List, [], ◌∷◌, ltb, ⊤, Err}
-use Rattle.refusal.specs.Answers.{OrRefused, fine, checked}
+use Rattle.refusal.specs.Answers.{OrRefused, no_refusal, checked}
 use Rattle.refusal.specs.declared.Refusal.TheVariants.{PositionOut}
 use Rattle.unit.specs.declared.Unit.{Unit}
 use Rattle.edits.specs.Pieces.{Piece, below_zero, begins_at, spliced_seg_mapped_length, end_of}
@@ -25,5 +25,5 @@ least_behind p = end_of p + 1
 
 -- piece by piece, so that a bad reference byte under the first is told before a second that is misplaced; the first may begin anywhere
 unfoldable pub pieces_refusal : Unit → (reference : List ℕ) (least : ℕ) → List Piece → OrRefused ⊤
-pieces_refusal u reference least [] = fine
+pieces_refusal u reference least [] = no_refusal
 pieces_refusal u reference least (p ∷ ps) = checked (placed_piece u reference least p) (pieces_refusal u reference (least_behind p) ps)

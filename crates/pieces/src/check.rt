@@ -23,7 +23,7 @@ pub struct PieceFound {
     pub text: u32,
 }
 
-// A piece's bases and edits.
+// A piece's bases and edits. No From, as for `run_of`.
 pub(crate) fn run_here(w: PieceWalk) -> Run
     ensures { result ≡ run_here w }
 {
@@ -63,7 +63,7 @@ fn under_piece(
     )
 }
 
-// The characters of the splice in front of a piece; the first piece has none.
+// The characters of the splice in front of a piece; the first piece has none. It is known by the 0 with which `pieces_found` (specs/) begins, here and in `put_text`.
 fn splice_text(position: u64, least: u64) -> u32
     requires { (position < 2 ^ 32) × (least ≤ position) }
     ensures { (result ≡ splice_text position least) × (result ≤ most_splice) }

@@ -9,7 +9,7 @@ use borrow.Author.Tests.{le-leb, lt-leb}
 use Rattle.std.specs.List.{list_any}
 use Rattle.frame.proofs.HexLaws.{by_test}
 use Rattle.std.specs.Prelude.{Err}
-use Rattle.refusal.specs.Answers.{fine}
+use Rattle.refusal.specs.Answers.{no_refusal}
 use Rattle.refusal.specs.declared.Refusal.TheVariants.{Missing}
 use Rattle.unit.specs.Pairs.{most_symbols}
 use Rattle.state.specs.State.{within}
@@ -28,7 +28,7 @@ module _ (u : Unit) (counts : List ℕ) (state : State) where
   unfolding state_refusal
   index_out h e = rw (lt-leb _ _ h, e)
 
-  pub state_fine : state.number < u.records → within state counts ≡ true → state_refusal u counts state ≡ fine
+  pub state_fine : state.number < u.records → within state counts ≡ true → state_refusal u counts state ≡ no_refusal
   unfolding state_refusal
   state_fine h e = rw (lt-leb _ _ h, e)
 

@@ -8,7 +8,7 @@ use borrow.Author.Tests.{ltb-false, leb-false}
 use lib.Dec.{ltb, leb, lit≤}
 use lib.ListN.{length, get_or}
 use Rattle.std.specs.Prelude.{⊤, Err}
-use Rattle.refusal.specs.Answers.{OrRefused, fine}
+use Rattle.refusal.specs.Answers.{OrRefused, no_refusal}
 use Rattle.refusal.specs.declared.Refusal.TheVariants.{Misframed, CountOut, Missing}
 use Rattle.refusal.proofs.AnswerLaws.{past_checked, never_refused}
 use Rattle.frame.proofs.HexLaws.{by_test, false_true}
@@ -42,15 +42,15 @@ pub record LentTaken (u : Unit) (bases places : ℕ) (counts : List ℕ) (state 
   pub in_count : state.number < u.records
   pub within : (i : ℕ) → get_or state.index i 0 ≤ get_or counts i 0
 
-pub lent_taken : (u : Unit) (bases places : ℕ) (counts : List ℕ) (state : State) → lent_refusal u bases places counts state ≡ fine → LentTaken u bases places counts state
+pub lent_taken : (u : Unit) (bases places : ℕ) (counts : List ℕ) (state : State) → lent_refusal u bases places counts state ≡ no_refusal → LentTaken u bases places counts state
 unfolding lent_refusal state_refusal
 lent_taken u bases places counts state q =
     let t = past_checked (unit_refusal u) _ tt q in
     let a = past_refusal (Err Misframed) (λ z. never_refused z) most_reference bases _ t.1 in
     let b = past_match_lem (Err CountOut) (λ z. never_refused z) places table_length _ a.1 in
     let c = past_match_lem (Err CountOut) (λ z. never_refused z) (length counts) subsequences _ b.1 in
-    let d = past_flag (counts_out counts) (Err CountOut) _ fine (λ z. never_refused z) c.1 in
-    let f = past_flag (leb u.records state.number) (Err Missing) _ fine (λ z. never_refused z) d.1 in
+    let d = past_flag (counts_out counts) (Err CountOut) _ no_refusal (λ z. never_refused z) c.1 in
+    let f = past_flag (leb u.records state.number) (Err Missing) _ no_refusal (λ z. never_refused z) d.1 in
     let g : within state counts ≡ true = by_test (within state counts) (λ w. w) (λ w. never_refused (simp w at f.1)) in
     record {
       unit = valid_is u t.0;

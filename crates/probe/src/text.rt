@@ -19,10 +19,7 @@ pub extern "C" fn probe_line(line: &[u8]) -> usize
 fn value(f: Result<(u32, Cursor), Refusal>) -> u32
     ensures { result ≡ value_of f }
 {
-    match f {
-        Ok((v, _)) => v,
-        Err(_) => 0,
-    }
+    f.map_or(0, |(v, _)| v)
 }
 
 // The sum of a frame's first `fields` u16 fields, modulo 2^32.

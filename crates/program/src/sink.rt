@@ -7,7 +7,7 @@ use listing::close;
 use refusal::Refusal;
 use state::listed::ListedLine;
 
-// The first `used` bytes of the buffer are to be written: none of them any more, once the program stops.
+// The first `used` bytes of the buffer are to be written: none of them any more, once the program stops. No Vec: the memory is fixed, and no slice: more is written behind them.
 #[derive(Drop)]
 pub struct Sink<'r, 'o> {
     pub rt: &'r HostRuntime,

@@ -38,10 +38,7 @@ fn field_at(frame: &[u8], at: usize, w: Width) -> Result<(u32, Cursor), Refusal>
 fn place_behind(f: Result<(u32, Cursor), Refusal>, at: usize) -> usize
     ensures { result ≡ behind f at }
 {
-    match f {
-        Ok((_, c)) => c.at,
-        Err(_) => at,
-    }
+    f.map_or(at, |(_, c)| c.at)
 }
 
 impl<'a> Reader<'a> {

@@ -6,7 +6,7 @@ use Prim.Native.Nat.{ℕ, ◌^◌, ◌<◌}
 use native.Mathlib.Omega.{arith}
 use lib.ListN.{length}
 use Rattle.std.specs.Prelude.{⊤, Ok, Err}
-use Rattle.refusal.specs.Answers.{OrRefused, fine}
+use Rattle.refusal.specs.Answers.{OrRefused, no_refusal}
 use Rattle.refusal.specs.declared.Refusal.{Refusal}
 use Rattle.frame.specs.Hex.{unhex}
 use Rattle.frame.specs.Line.{line_of}
@@ -45,23 +45,23 @@ module _ (u : Unit) (reference symbols counts : List ℕ) (state : State) {r : O
   lent_refused line room n h = rw (← e, h) refl
 
   -- it is accepted: a line that is not well formed is refused as such
-  pub call_malformed : (line : List ℕ) (room : ℕ) (n : Refusal) → r ≡ fine → line_of line ≡ Err n → record_of u reference symbols counts state line room ≡ refused n
+  pub call_malformed : (line : List ℕ) (room : ℕ) (n : Refusal) → r ≡ no_refusal → line_of line ≡ Err n → record_of u reference symbols counts state line room ≡ refused n
   unfolding record_of step_of plan_of
   call_malformed line room n h w = rw (← e, h, w) refl
 
   -- of another its frame and the room decide
-  pub call_framed : (line : List ℕ) (room : ℕ) {size : ℕ} → r ≡ fine → line_of line ≡ Ok size → record_of u reference symbols counts state line room ≡ with_room room (read_step u reference symbols counts state (unhex line))
+  pub call_framed : (line : List ℕ) (room : ℕ) {size : ℕ} → r ≡ no_refusal → line_of line ≡ Ok size → record_of u reference symbols counts state line room ≡ with_room room (read_step u reference symbols counts state (unhex line))
   unfolding record_of step_of plan_of read_step
   call_framed line room h w = rw (← e, h, w) refl
 
   -- ---- what is left for the writing
 
   -- the next record's number does not wrap
-  pub number_fits : r ≡ fine → state.number < most_records
+  pub number_fits : r ≡ no_refusal → state.number < most_records
   number_fits h = let l = lent_taken u (length reference) (length symbols) counts state (sym e ∙ h) in omega (arith, l.in_count, l.unit.records)
 
   -- a frame that was accepted is ready to be written
-  pub frame_ready : (line frame : List ℕ) {answer : OrRefused (Plan × State)} {p : Plan} {moved : State} → r ≡ fine → u.end < 2 ^ 32 → FrameOf line frame → answer ≡ from_kind u reference symbols counts state frame → answer ≡ Ok (p, moved) → ReadyPlan u reference symbols frame p
+  pub frame_ready : (line frame : List ℕ) {answer : OrRefused (Plan × State)} {p : Plan} {moved : State} → r ≡ no_refusal → u.end < 2 ^ 32 → FrameOf line frame → answer ≡ from_kind u reference symbols counts state frame → answer ≡ Ok (p, moved) → ReadyPlan u reference symbols frame p
   frame_ready line frame {answer} {p} {moved} h fits f q g =
       let l = lent_taken u (length reference) (length symbols) counts state (sym e ∙ h) in
       rw f.bytes

@@ -6,7 +6,7 @@ use mathlib.Core.List.{List, ◌++◌}
 use Prim.Native.Nat.{ℕ, ◌+◌, ◌-◌, ◌*◌, ◌^◌, ◌<◌, ◌≤◌}
 use native.Mathlib.Omega.{arith}
 use borrow.Author.Tests.{lt-ltb}
-use lib.ListN.{length, take, get_or, length-append}
+use lib.ListN.{length, take, get_or}
 use lib.Seq.{length-take-le}
 use Rattle.std.specs.Prelude.{⊤, Ok, Err}
 use Rattle.refusal.specs.Answers.{OrRefused}
@@ -23,7 +23,6 @@ use Rattle.state.specs.Listed.{most_listed, least_listed, listed_head, Step, ref
 use Rattle.unit.specs.declared.Unit.{Unit as UnitOf}
 use Rattle.state.specs.declared.State.{State}
 use Rattle.pairing.specs.Table60.{mapping_pos}
-use Rattle.pairing.specs.declared.Link.{Link}
 use Rattle.taking.proofs.Decoding.{decode_follows, follows_within}
 use Rattle.segment.specs.declared.Placed.{Placed}
 use Rattle.segment.specs.declared.Segment.TheVariants.{Aligned}
@@ -35,14 +34,9 @@ use Rattle.plan.specs.declared.read.Plan.{Plan}
 use Rattle.plan.proofs.PlanLaws.{plan_taken, plan_ready, first_aligned, second_aligned}
 use Rattle.plan.proofs.RefusalLaws.{lent_early, plan_early}
 use Rattle.plan.proofs.StateLaws.{LentTaken, lent_taken}
-use Rattle.record.specs.Record.{link_bytes, listed_bytes, step_by, after_lent, step_of, with_room, record_of}
+use Rattle.record.specs.Record.{listed_bytes, step_by, after_lent, step_of, with_room, record_of}
 use Rattle.state.specs.State.{after, Shaped}
-use Rattle.record.proofs.BytesLaws.{tail_bytes, listed_head_lem, bytes_listed, length_listed, length_link}
-use Rattle.state.proofs.ListedLaws.{length_head}
-
--- exactly so many bytes stand before the segments
-pub least_listed_lem : (number sequence pos : ℕ) (next : State) (link : Link) → Shaped next → length (listed_head number next ++ link_bytes sequence pos link) ≡ least_listed
-least_listed_lem number sequence pos next link h = simp (length-append, length_link) (omega (arith, length_head number next h))
+use Rattle.record.proofs.BytesLaws.{tail_bytes, listed_head_lem, bytes_listed, length_listed}
 
 -- ---- a refusal
 

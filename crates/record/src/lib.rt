@@ -2,7 +2,7 @@
 #![tactic(auto)]
 
 ghost use Rattle.std.specs.Prelude.{◌≡◌, List, ℕ, ◌<◌, length, Ok};
-ghost use Rattle.refusal.specs.Answers.{fine};
+ghost use Rattle.refusal.specs.Answers.{no_refusal};
 ghost use Rattle.unit.specs.Unit.{most_records};
 ghost use Rattle.plan.specs.Lent.{lent_refusal};
 ghost use Rattle.plan.specs.Code.Ready.{ReadyPlan};
@@ -20,7 +20,7 @@ use unit::Unit;
 mod sized;
 mod write;
 
-// How many bytes were written, the 0A among them, or the refusal; and the state after it: the next record's, or as it was given.
+// How many bytes were written, the 0A among them, or the refusal; and the state after it: the next record's, or as it was given, which `refused_call` (specs/) hands back beside a refusal.
 #[derive(Clone, Copy)]
 pub struct Recorded {
     pub answer: Result<usize, Refusal>,
@@ -77,7 +77,7 @@ fn of_frame(
     frame: &[u8],
     out: &mut [u8],
 ) -> Recorded
-    requires state_value { lent_refusal unit (length reference.now) (length symbols.now) counts.now state ≡ fine }
+    requires state_value { lent_refusal unit (length reference.now) (length symbols.now) counts.now state ≡ no_refusal }
     requires by_index { (line : List ℕ) × FrameOf line frame.now }
     ensures value { result ≡ recorded state (with_room (length out.old) (read_step unit reference.now symbols.now counts.now state frame.now)) }
     ensures out_after { out.new ≡ output out.old (with_room (length out.old) (read_step unit reference.now symbols.now counts.now state frame.now)) }

@@ -1,8 +1,8 @@
-// The frame of a line, decoded once into bytes that the call owns. An array is cleared when it is made, so there are three sizes of it, by the line's length.
+// The frame of a line, decoded once into bytes that the call owns. An array is cleared when it is made, so there are three sizes of it, by the line's length. The memory is fixed: no Vec has just so many bytes, and a size has to be a constant.
 ghost use Rattle.std.specs.Prelude.{◌≡◌, [], ◌∷◌, ℕ, ◌≤◌, length, Ok};
 ghost use Rattle.frame.specs.Hex.{unhex};
 ghost use Rattle.frame.specs.Line.{line_of};
-ghost use Rattle.refusal.specs.Answers.{fine};
+ghost use Rattle.refusal.specs.Answers.{no_refusal};
 ghost use Rattle.plan.specs.Lent.{lent_refusal};
 ghost use Rattle.record.specs.Record.{recorded, output, with_room};
 ghost use Rattle.record.specs.Code.Frame.{read_step, short_frame, middle_frame, long_frame};
@@ -38,7 +38,7 @@ fn within(
     own: &mut [u8],
     out: &mut [u8],
 ) -> Recorded
-    requires state_value { lent_refusal unit (length reference.now) (length symbols.now) counts.now state ≡ fine }
+    requires state_value { lent_refusal unit (length reference.now) (length symbols.now) counts.now state ≡ no_refusal }
     requires by_index { (size : ℕ) × ((line_of line.now ≡ Ok size) × (size ≤ length own.old)) }
     ensures value { result ≡ recorded state (with_room (length out.old) (read_step unit reference.now symbols.now counts.now state (unhex line.now))) }
     ensures out_after { out.new ≡ output out.old (with_room (length out.old) (read_step unit reference.now symbols.now counts.now state (unhex line.now))) }
@@ -59,7 +59,7 @@ pub(crate) fn of_line(
     out: &mut [u8],
     size: usize,
 ) -> Recorded
-    requires state_value { lent_refusal unit (length reference.now) (length symbols.now) counts.now state ≡ fine }
+    requires state_value { lent_refusal unit (length reference.now) (length symbols.now) counts.now state ≡ no_refusal }
     requires line_value { line_of line.now ≡ Ok size }
     ensures value { result ≡ recorded state (with_room (length out.old) (read_step unit reference.now symbols.now counts.now state (unhex line.now))) }
     ensures out_after { out.new ≡ output out.old (with_room (length out.old) (read_step unit reference.now symbols.now counts.now state (unhex line.now))) }

@@ -13,43 +13,26 @@ use state::{State, head};
 use unit::Unit;
 use writing::lay::put_bytes;
 
-// The head: kind, record number, and the state after this record.
-fn put_head(out: &mut [u8], number: u32, next: State) -> usize
-    requires { 2 * length (listed_head number next) ≤ length out.old }
-    ensures { Laid out.old out.new 0 result (listed_head number next) }
-{
-    let bytes = head::bytes(number, next);
-    put_bytes(out, 0, &bytes)
-}
-
 // What the pair symbols say: read1First, splitMate, the record's segments, and the mate's sequence id and position. Of a position past four bytes, which no accepted record has, these are the low four.
 fn link_bytes(unit: Unit, pos: u32, link: Link) -> [u8; ListedLine::LINK]
     ensures { result ≡ link_bytes unit.sequence pos link }
 {
-    let sequence = link.mate_sequence(unit);
-    let position = link.mate_position(pos);
+    let sequence = link.mate_sequence(unit).to_be_bytes();
+    let position = link.mate_position(pos).to_be_bytes();
     [
-        (link.first % 256) as u8,
-        (link.split % 256) as u8,
-        (link.segments % 256) as u8,
-        (sequence / 256 % 256) as u8,
-        (sequence % 256) as u8,
-        (position / 16_777_216 % 256) as u8,
-        (position / 65_536 % 256) as u8,
-        (position / 256 % 256) as u8,
-        (position % 256) as u8,
+        link.first.to_be_bytes()[3],
+        link.split.to_be_bytes()[3],
+        link.segments.to_be_bytes()[3],
+        sequence[2],
+        sequence[3],
+        position[4],
+        position[5],
+        position[6],
+        position[7],
     ]
 }
 
-fn put_link(out: &mut [u8], at: usize, unit: Unit, pos: u32, link: Link) -> usize
-    requires { at + 2 * length (link_bytes unit.sequence pos link) ≤ length out.old }
-    ensures { Laid out.old out.new at result (link_bytes unit.sequence pos link) }
-{
-    let bytes = link_bytes(unit, pos, link);
-    put_bytes(out, at, &bytes)
-}
-
-// The bytes of an 04 line; the rest of the line is lent on for the second segment.
+// The bytes of an 04 line: its head (kind, record number, and the state after this record), its link, its segments. The rest of the line is lent on for the second segment.
 pub(crate) fn write(
     out: &mut [u8],
     unit: Unit,
@@ -66,8 +49,8 @@ pub(crate) fn write(
 {
     let first = p.first;
     let second = p.second;
-    let a = put_head(out, number, next);
-    let b = put_link(out, a, unit, p.pos, p.link);
+    let a = put_bytes(out, 0, &head::bytes(number, next));
+    let b = put_bytes(out, a, &link_bytes(unit, p.pos, p.link));
     let c = segment_write::write(out, b, frame, unit, reference, symbols, first);
     let d = segment_write::write(&mut out[c..], 0, frame, unit, reference, symbols, second);
     c + d

@@ -5,7 +5,7 @@ use Prim.Native.Nat.{ℕ}
 use native.Mathlib.Omega.{arith}
 use Rattle.std.specs.Prelude.{⊤, Ok, Err}
 use Rattle.refusal.specs.declared.Refusal.{Refusal}
-use Rattle.refusal.specs.Answers.{OrRefused, fine, after_ok, checked}
+use Rattle.refusal.specs.Answers.{OrRefused, no_refusal, after_ok, checked}
 
 -- no answer accepts and refuses
 pub never_accepted : {P A : Type 0} {a : A} {n : Refusal} → ◌≡◌ {A = OrRefused A} (Ok a) (Err n) → P
@@ -42,7 +42,7 @@ pub past_ok : {A B : Type 0} (r : OrRefused A) (f : A → OrRefused B) (b : B) �
 past_ok (Ok a) f b e = record { value = a; accepted = refl; rest = e }
 past_ok (Err n) f b e = never_refused e
 
-pub past_checked : {B : Type 0} (r : OrRefused ⊤) (go_on : OrRefused B) (b : B) → checked r go_on ≡ Ok b → (r ≡ fine) × (go_on ≡ Ok b)
+pub past_checked : {B : Type 0} (r : OrRefused ⊤) (go_on : OrRefused B) (b : B) → checked r go_on ≡ Ok b → (r ≡ no_refusal) × (go_on ≡ Ok b)
 past_checked (Ok t) go_on b e = (refl, e)
 past_checked (Err n) go_on b e = never_refused e
 

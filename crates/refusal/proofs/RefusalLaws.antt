@@ -2,15 +2,11 @@
 -- Assumes nothing.
 use native.Mathlib.Omega.{arith}
 use borrow.Author.Tests.{eqb-false}
-use Rattle.std.specs.Prelude.{◌≡◌, ⊤, ℕ, Ok, Err, Bool, true, false, not, eqb, T, refl}
+use Rattle.std.specs.Prelude.{◌≡◌, ⊤, Ok, Err, Bool, true, false, not, eqb, T, refl}
 use Rattle.refusal.specs.declared.Refusal.{Refusal}
 use Rattle.refusal.specs.declared.Refusal.TheVariants.{Malformed, Misframed, UnitOut, CountOut, UsedUp, CodeOut, ValueOut, LengthOut, ClipsOut, SymbolOut, FieldOut, OffsetOut, PositionOut, Missing, OtherFirst, OtherLast, NoRoom}
 use Rattle.refusal.specs.Numbers.{number_of, no_room, InTable, Early}
 use Rattle.refusal.specs.Answers.{OrRefused, after_ok, checked}
-
--- a number but 17 is a number
-pub early_refusal : (n : ℕ) → Early n → InTable n
-early_refusal n h = h.0
 
 pub in_table : (refusal : Refusal) → InTable (number_of refusal)
 in_table Malformed = (omega arith, omega arith)

@@ -14,8 +14,8 @@ answer_number (Ok a) = 0
 answer_number (Err refusal) = number_of refusal
 
 -- nothing is refused, and there is nothing more to say
-abbrev pub fine : OrRefused ⊤
-fine = Ok tt
+abbrev pub no_refusal : OrRefused ⊤
+no_refusal = Ok tt
 
 -- what was accepted, and what follows from it; a refusal stands as it is (the code's `?`)
 abbrev pub after_ok : {A B : Type 0} → OrRefused A → (A → OrRefused B) → OrRefused B

@@ -71,8 +71,8 @@ fn records_from(
 pub fn rest(files: &mut OpenFiles, state: State, sink: &mut Sink) -> Result<(), Failed> {
     match files.front {
         FrontRead::Ready(unit) => records_from(unit, files, state, sink)?,
-        FrontRead::Unpaired(_, refusal) => sink.add_refused(0, u32::from(refusal))?,
-        FrontRead::Alone(_) => {}
+        FrontRead::Unpaired(_, n) => sink.add_refused(0, n)?,
+        FrontRead::Alone(_) | FrontRead::Unread => {}
     }
     sink.flush()
 }

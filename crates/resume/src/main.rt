@@ -67,6 +67,7 @@ fn resume(
     go_on(rt, &mut files, found_path, &mut out)
 }
 
+// Its own arrays, as in list: no memory is asked for.
 fn resume_named(rt: &HostRuntime) -> Result<(), Failed> {
     let mut reference = path_buffer();
     let mut unit = path_buffer();

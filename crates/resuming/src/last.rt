@@ -4,14 +4,14 @@ ghost use Rattle.frame.specs.Hex.{unhex};
 ghost use Rattle.listing.specs.Resuming.{listed_last, frame_last, last_of};
 ghost use Rattle.resuming.specs.Last.{said_of};
 
-use frame::field::byte_at;
+use frame::field::{Digits, byte_at};
 use frame::line::line_within;
 use listing::close;
 use state::listed::ListedLine;
 use state::{State, head};
 use unit::kind::Kind;
 
-// What the last kept line says.
+// What the last kept line says. No Result: three answers, and Bad is an answer like the others, which becomes 16 in `place` alone.
 #[derive(Clone, Copy)]
 pub enum LastSays {
     // An 04 line: go on behind its record, from this state.
@@ -37,7 +37,7 @@ fn frame_last(line: &[u8], bytes: usize, count: u32, counts: &[u32]) -> LastSays
     requires { bytes ≡ length (unhex line.now) }
     ensures { result ≡ said_of (frame_last count counts.now (unhex line.now)) }
 {
-    let kind = u32::from(byte_at(line, 0));
+    let kind = u32::from(byte_at(Digits(line), 0));
     if kind == Kind::LISTED {
         return listed_last(line, count, counts);
     }

@@ -7,7 +7,7 @@ use crate::last::{LastSays, last_line};
 use refusal::Refusal;
 use state::State;
 
-// Where to go on.
+// Where to go on. No Result: a refused resume is a listing too, its 05 line, so that each caller takes all five apart and none hands a refusal on.
 #[derive(Clone, Copy)]
 pub enum Go {
     // Nothing is kept: the whole listing is added.
@@ -34,7 +34,7 @@ impl Go {
     }
 }
 
-// Behind a last kept line that is not the listing's first one.
+// Behind a last kept line that is not the listing's first one. No From: what a line says becomes where to go on in this place alone.
 fn behind(last: &[u8], count: u32, counts: &[u32]) -> Go
     ensures { result ≡ placed_of (on_last (last_of count counts.now last.now)) }
 {

@@ -7,7 +7,7 @@ use native.Mathlib.Omega.{arith}
 use native.Mathlib.Nat.{zero-add}
 use lib.ListN.{length}
 use Rattle.std.specs.Prelude.{Ok, Err, ⊤}
-use Rattle.refusal.specs.Answers.{OrRefused, fine, checked}
+use Rattle.refusal.specs.Answers.{OrRefused, no_refusal, checked}
 use Rattle.refusal.specs.declared.Refusal.{Refusal}
 use Rattle.refusal.proofs.AnswerLaws.{past_checked, never_accepted}
 use Rattle.unit.specs.declared.Unit.{Unit}
@@ -50,7 +50,7 @@ module _ (u : Unit) (reference symbols frame : List ℕ) (position : ℕ) (a : A
       rw (only, number, text, taken)
       (nested (place_refusal u.start u.end position a.taken) (under_matches u reference frame position a.block) _)
     where
-      nested : {B : Type 0} (x y : OrRefused ⊤) (go_on : OrRefused B) → checked (checked (checked x y) fine) go_on ≡ checked x (checked y go_on)
+      nested : {B : Type 0} (x y : OrRefused ⊤) (go_on : OrRefused B) → checked (checked (checked x y) no_refusal) go_on ≡ checked x (checked y go_on)
       nested (Ok t) (Ok s) go_on = refl
       nested (Ok t) (Err n) go_on = refl
       nested (Err n) y go_on = refl
@@ -67,11 +67,11 @@ module _ (u : Unit) (reference symbols frame : List ℕ) (position : ℕ) (a : A
         by (Err k) e z = cc
 
     module _ (found : ℕ) (h : answer ≡ Ok found) where
-      both_is : (pieces_refusal u reference 0 (block_pieces u symbols frame position a) ≡ fine) × (◌≡◌ {A = OrRefused ℕ} (Ok (0 + text_behind u.alphabet 0 (block_pieces u symbols frame position a))) (Ok found))
+      both_is : (pieces_refusal u reference 0 (block_pieces u symbols frame position a) ≡ no_refusal) × (◌≡◌ {A = OrRefused ℕ} (Ok (0 + text_behind u.alphabet 0 (block_pieces u symbols frame position a))) (Ok found))
       unfolding pieces_found
       both_is = past_checked (pieces_refusal u reference 0 (block_pieces u symbols frame position a)) _ found (sym q ∙ h)
 
-      fine_is : pieces_refusal u reference 0 (block_pieces u symbols frame position a) ≡ fine
+      fine_is : pieces_refusal u reference 0 (block_pieces u symbols frame position a) ≡ no_refusal
       fine_is = both_is.0
 
       text_is : found ≡ text_behind u.alphabet 0 (block_pieces u symbols frame position a)

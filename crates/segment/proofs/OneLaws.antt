@@ -6,7 +6,7 @@ use mathlib.Core.List.{List, [], ◌∷◌}
 use native.Mathlib.Omega.{arith}
 use native.Mathlib.Nat.{sub-zero}
 use borrow.Author.Tests.{le-ltb}
-use Rattle.refusal.specs.Answers.{fine, checked}
+use Rattle.refusal.specs.Answers.{no_refusal, checked}
 use Rattle.unit.specs.declared.Unit.{Unit}
 use Rattle.state.specs.Listed.{words_at}
 use Rattle.edits.specs.Edits.{taken_from, block_edits}
@@ -36,7 +36,7 @@ only_piece_lem class alphabet frame symbols b s position h = rw h refl
 -- what is refused of it
 pub only_refusal : (u : Unit) (reference frame : List ℕ) (b : Block) (position : ℕ)
     → pieces_refusal u reference 0 (only_piece u.class u.alphabet frame b position ∷ [])
-    ≡ checked (checked (place_refusal u.start u.end position (taken_from (mapped_length b.length b.clips) 0 (block_edits u.class u.alphabet frame b))) (under_matches u reference frame position b)) fine
+    ≡ checked (checked (place_refusal u.start u.end position (taken_from (mapped_length b.length b.clips) 0 (block_edits u.class u.alphabet frame b))) (under_matches u reference frame position b)) no_refusal
 unfolding pieces_refusal piece_out
 only_refusal u reference frame b position =
     rw (le-ltb position 0 (omega arith), le-ltb (position - 0) 0 (omega arith), sub-zero position) refl

@@ -9,7 +9,7 @@ use native.Mathlib.Nat.{sub-zero}
 use borrow.Author.Tests.{ltb-false}
 use lib.Dec.{ltb}
 use lib.ListN.{length}
-use Rattle.refusal.specs.Answers.{fine}
+use Rattle.refusal.specs.Answers.{no_refusal}
 use Rattle.refusal.proofs.AnswerLaws.{past_checked, never_refused}
 use Rattle.frame.proofs.HexLaws.{by_test}
 use Rattle.unit.specs.declared.Unit.{Unit as UnitOf}
@@ -35,9 +35,9 @@ pub record PiecePlaced (u : UnitOf) (reference : List ℕ) (least : ℕ) (p : Pi
   pub straightly : below_zero p.at ≡ false
   pub behind : least ≤ begins_at p
   pub inside : Inside u.start u.end (begins_at p) (spliced_seg_mapped_length p)
-  pub known : piece_refusal u.alphabet reference u.first p ≡ fine
+  pub known : piece_refusal u.alphabet reference u.first p ≡ no_refusal
 
-piece_placed : (u : UnitOf) (reference : List ℕ) (least : ℕ) (p : Piece) → placed_piece u reference least p ≡ fine → PiecePlaced u reference least p
+piece_placed : (u : UnitOf) (reference : List ℕ) (least : ℕ) (p : Piece) → placed_piece u reference least p ≡ no_refusal → PiecePlaced u reference least p
 unfolding piece_out
 piece_placed u reference least p z =
     let f = past_checked (piece_out u least p) (piece_refusal u.alphabet reference u.first p) tt z in
@@ -57,7 +57,7 @@ unfoldable pub AllPlaced : UnitOf → (reference : List ℕ) (least : ℕ) → L
 AllPlaced u reference least [] = Unit
 AllPlaced u reference least (p ∷ ps) = PiecePlaced u reference least p × AllPlaced u reference (least_behind p) ps
 
-pub all_placed : (u : UnitOf) (reference : List ℕ) (least : ℕ) (ps : List Piece) → pieces_refusal u reference least ps ≡ fine → AllPlaced u reference least ps
+pub all_placed : (u : UnitOf) (reference : List ℕ) (least : ℕ) (ps : List Piece) → pieces_refusal u reference least ps ≡ no_refusal → AllPlaced u reference least ps
 unfolding pieces_refusal AllPlaced
 all_placed u reference least [] z = tt
 all_placed u reference least (p ∷ ps) z =

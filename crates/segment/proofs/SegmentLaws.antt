@@ -8,7 +8,7 @@ use lib.Dec.{ltb}
 use lib.ListN.{length, get_or, length-append}
 use Rattle.std.specs.Prelude.{Ok, Err}
 use Rattle.frame.specs.Field.{Field, after_field}
-use Rattle.refusal.specs.Answers.{fine}
+use Rattle.refusal.specs.Answers.{no_refusal}
 use Rattle.refusal.proofs.AnswerLaws.{past_ok, past_checked, ok_pair, never_refused}
 use Rattle.frame.specs.declared.field.Cursor.{Cursor}
 use Rattle.frame.proofs.HexLaws.{by_test, length_be}
@@ -82,7 +82,7 @@ pieced_ready class alphabet frame a r =
     leaves (suc (suc k)) at h l m = leaves_more _ _ frame k at l m
 
 module _ (u : Unit) (reference symbols frame : List ℕ) (position : ℕ) where
-  module _ (a : AlignedBlock) (r : ReadyBlock u.class u.alphabet frame a) (fits : u.end < 2 ^ 32) (z : pieces_refusal u reference 0 (block_pieces u symbols frame position a) ≡ fine) where
+  module _ (a : AlignedBlock) (r : ReadyBlock u.class u.alphabet frame a) (fits : u.end < 2 ^ 32) (z : pieces_refusal u reference 0 (block_pieces u symbols frame position a) ≡ no_refusal) where
     abbrev g : Pieced u.class u.alphabet frame a.block a.splices
     g = pieced_ready u.class u.alphabet frame a r
 

@@ -11,7 +11,7 @@ use borrow.Author.Tests.{lt-ltb, le-ltb, ltb-true, ltb-false, leb-false}
 use lib.Dec.{ltb, leb}
 use lib.ListN.{length, get_or}
 use Rattle.std.specs.Prelude.{Ok}
-use Rattle.refusal.specs.Answers.{fine}
+use Rattle.refusal.specs.Answers.{no_refusal}
 use Rattle.refusal.proofs.AnswerLaws.{past_ok, past_checked, ok_pair, never_refused}
 use Rattle.frame.specs.declared.field.Cursor.{Cursor}
 use Rattle.frame.proofs.HexLaws.{by_test}
@@ -130,7 +130,7 @@ missing_base alphabet reference first at h =
     (λ t. by_test (ltb at (first + length reference)) (λ s. absurd (h (ltb-false _ _ t) (ltb-true _ _ s))) (λ s. simp (t, s)))
 
 -- a base that is not refused is a letter of the alphabet
-base_letter : (alphabet : ℕ) (reference : List ℕ) (first at : ℕ) → base_refusal alphabet reference first at ≡ fine → Letter alphabet (base_at alphabet reference first at)
+base_letter : (alphabet : ℕ) (reference : List ℕ) (first at : ℕ) → base_refusal alphabet reference first at ≡ no_refusal → Letter alphabet (base_at alphabet reference first at)
 unfolding base_refusal base_at
 base_letter alphabet reference first at z =
     by_test (is_lent reference first at)

@@ -74,7 +74,7 @@ pub fn read_aligned(
     place_block(frame, unit, reference, symbols, position, a)
 }
 
-// A read over introns goes piece by piece.
+// A read over introns goes piece by piece. A test and two calls, here and in `write`: they take other values and promise other things, so no closure is plainer.
 fn place_block(
     frame: &[u8],
     unit: Unit,
@@ -95,6 +95,7 @@ fn place_block(
 
 // Refusal 10 of the reference under the matches of a block that was accepted.
 // Every position that it takes is looked at at once, and the matches alone only where that finds something.
+// pieces' `under_piece` does the same of a piece; one function for both would take ten values, which is no plainer.
 fn under_matches(
     frame: &[u8],
     unit: Unit,

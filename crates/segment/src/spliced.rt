@@ -11,7 +11,7 @@ use ecigar::clip::put_clip;
 use pieces::write::{write_bases, write_text};
 use unit::Unit;
 
-// The bases: left soft clip, pieces, right soft clip.
+// The bases: left soft clip, pieces, right soft clip. Clips stand around a whole run in `bases::write` also: the middle differs, and to hand it over as a function is no plainer.
 pub(crate) fn put_bases(
     out: &mut [u8],
     at: usize,
@@ -37,7 +37,7 @@ pub(crate) fn put_bases(
     put_letters(out, behind, frame, unit.alphabet, right, end)
 }
 
-// The text: left clip, pieces with their splices, right clip.
+// The text: left clip, pieces with their splices, right clip; beside `ecigar::text::write` for the same reason.
 pub(crate) fn put_ecigar(
     out: &mut [u8],
     at: usize,

@@ -35,15 +35,10 @@ pub fn write(
 fn head(position: u32, rcomp: u32, bases: u32) -> [u8; 7]
     ensures { result ≡ be 4 position ++ be 1 rcomp ++ be 2 bases }
 {
-    [
-        (position / 16_777_216 % 256) as u8,
-        (position / 65_536 % 256) as u8,
-        (position / 256 % 256) as u8,
-        (position % 256) as u8,
-        (rcomp % 256) as u8,
-        (bases / 256 % 256) as u8,
-        (bases % 256) as u8,
-    ]
+    let [first, second, third, fourth] = position.to_be_bytes();
+    let [_, _, _, strand] = rcomp.to_be_bytes();
+    let [_, _, high, low] = bases.to_be_bytes();
+    [first, second, third, fourth, strand, high, low]
 }
 
 fn write_aligned(

@@ -10,6 +10,7 @@ ghost use Rattle.splices.specs.Located.{unspliced};
 ghost use Rattle.splices.specs.Code.Walk.{NarrowSplices};
 
 // How many pieces a read has, where their lengths stand in the frame, and where their symbols stand: how many of subsequences 0, 1 and 3 are taken before them.
+// Places and no slices, also in `PieceWalk` and `Mapping`: a table or a frame may end before them, and then 0 stands there (`symbol_at`, `big_at` in specs/).
 #[derive(Clone, Copy)]
 pub struct Splices {
     pub lengths_at: usize,
@@ -20,7 +21,7 @@ pub struct Splices {
 }
 
 impl Splices {
-    // A read of one piece, in the classes that have no splices.
+    // A read of one piece, in the classes that have no splices. No Option: its pieces are counted like any other's (`unspliced` in specs/).
     pub fn none() -> Splices
         ensures { result ≡ unspliced }
     {

@@ -23,10 +23,7 @@ fn symbol_at(symbols: &[u32], s: usize, k: usize) -> u64
     ensures { (result ≡ symbol_at symbols.now s k) × (result < 2 ^ 32) }
 {
     let at = s * Pairs::SYMBOLS as usize + k;
-    if symbols.len() <= at {
-        return 0;
-    }
-    u64::from(symbols[at])
+    symbols.get(at).map_or(0, |&v| u64::from(v))
 }
 
 // By a signed distance, from the piece's end in the read on.
@@ -41,15 +38,14 @@ fn by_delta(m: Mapping, length: u32, v: u64) -> Mapping
             below: m.below + v / 2,
             codes: m.codes + 1,
             deltas: m.deltas + 1,
-            places: m.places,
+            ..m
         };
     }
     Mapping {
         above: end + v / 2,
-        below: m.below,
         codes: m.codes + 1,
         deltas: m.deltas + 1,
-        places: m.places,
+        ..m
     }
 }
 

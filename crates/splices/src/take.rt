@@ -7,21 +7,17 @@ ghost use Rattle.splices.specs.Code.Taken.{symbols_moved, splice_turns};
 
 use refusal::Refusal;
 use state::State;
-use taking::take;
-use unit::Unit;
+use taking::{take, take_narrow};
 
 // Code 0: a signed distance from the end of the piece before.
 fn take_short(symbols: &[u32], counts: &[u32], state: State) -> Result<State, Refusal>
     ensures { (end : SignedPosition) → result ≡ symbols_moved (decode symbols.now counts.now state (same_rec_short end)) }
 {
-    let (v, next) = take(symbols, counts, state, 1)?;
-    if Unit::LARGEST16 < v {
-        return Err(Refusal::ValueOut);
-    }
+    let (_, next) = take_narrow(symbols, counts, state, 1)?;
     Ok(next)
 }
 
-// Code 2: a position.
+// Code 2: a position, on which Table 62 sets no limit.
 fn take_long(symbols: &[u32], counts: &[u32], state: State) -> Result<State, Refusal>
     ensures { result ≡ symbols_moved (decode symbols.now counts.now state same_rec_long) }
 {
@@ -29,7 +25,7 @@ fn take_long(symbols: &[u32], counts: &[u32], state: State) -> Result<State, Ref
     Ok(next)
 }
 
-// The symbols of one piece: a code, and what it asks for.
+// The symbols of one piece: a code, and what it asks for. The numbers are those of Table 62, and each stands here alone: names, or a table of functions, say no more.
 fn take_piece(symbols: &[u32], counts: &[u32], state: State) -> Result<State, Refusal>
     ensures { (end : SignedPosition) → result ≡ symbols_moved (decode symbols.now counts.now state (next_mapping_pos end)) }
 {

@@ -1,6 +1,5 @@
 // The pieces of a read, one by one: each has its own bases, edits and position.
 ghost use Rattle.std.specs.Prelude.{◌≡◌, ℕ, suc, ◌+◌, ◌*◌, ◌^◌, ◌<◌, ◌≤◌, length, get_or};
-ghost use Rattle.frame.specs.Field.{big_at};
 ghost use Rattle.edits.specs.Edits.{width_of};
 ghost use Rattle.edits.specs.Code.Runs.{run_of};
 ghost use Rattle.splices.specs.Code.Mapping.{RoomFor};
@@ -11,6 +10,7 @@ use crate::mapping::{Mapping, following_piece};
 use edits::edit::width;
 use edits::piece::count_before;
 use edits::{Block, Run, run_of};
+use frame::field::word_at;
 
 // A piece: how many pieces are left from it on, where it begins and ends among the mapped bases, its edits and how many are behind them, where its length stands, and where it maps.
 #[derive(Clone, Copy)]
@@ -23,26 +23,6 @@ pub struct PieceWalk {
     pub behind: u32,
     pub lengths_at: usize,
     pub mapping: Mapping,
-}
-
-// A byte of the frame; 0 behind its end.
-fn byte_at(frame: &[u8], at: usize) -> u32
-    ensures { (result ≡ get_or frame.now at 0) × (result < 256) }
-{
-    if frame.len() <= at {
-        return 0;
-    }
-    u32::from(frame[at])
-}
-
-// The length at a place of the frame; bytes behind the frame's end count as 0.
-pub fn length_at(frame: &[u8], at: usize) -> u32
-    ensures { (result ≡ big_at 2 frame.now at) × (result < 2 ^ 16) }
-{
-    if frame.len() <= at {
-        return 0;
-    }
-    byte_at(frame, at) * 256 + byte_at(frame, at + 1)
 }
 
 // A piece that ends at `until` and has the edits before it; the last ends with the mapped bases, and has all edits that are left.
@@ -98,7 +78,7 @@ pub fn first_piece(
     let clips = block.clips;
     let run = run_of(block);
     let at = splices.lengths_at;
-    let until = length_at(frame, at) - clips.left_soft as u32;
+    let until = word_at(frame, at) - clips.left_soft as u32;
     let mapping = Mapping {
         above: position,
         below: 0,
@@ -117,14 +97,14 @@ pub fn next_piece(frame: &[u8], symbols: &[u32], class: u32, mapped: u32, w: Pie
     let at = w.lengths_at;
     let behind = at + 2;
     let m = w.mapping;
-    let length = length_at(frame, at);
+    let length = word_at(frame, at);
     let mapping = following_piece(symbols, m, length);
     let run = Run {
         mapped,
         edits: w.behind,
         edits_at: w.edits_at + w.edits as usize * width(class),
     };
-    let until = w.until + length_at(frame, behind);
+    let until = w.until + word_at(frame, behind);
     cut_piece(
         frame,
         class,

@@ -1,7 +1,6 @@
 -- The laws of an 04 line's head: it is read number by number, and what was laid for a state is read back as that state.
 -- Assumes nothing.
 use Prim.Native.Nat.{ℕ, zero, suc, ◌+◌, ◌*◌, ◌≤◌, ◌<◌}
-use native.Mathlib.Nat.{add-zero, zero-add, zero-mul}
 use native.Mathlib.Omega.{arith}
 use mathlib.Core.Path.{◌≡◌, refl, sym, ap, ◌∙◌}
 use mathlib.Core.Bool.{true, false}
@@ -9,10 +8,10 @@ use mathlib.Core.List.{List, [], ◌∷◌, ◌++◌, append_assoc}
 use Rattle.std.specs.Prelude.{Some, None}
 use lib.ListN.{length, get_or, set, length-append}
 use borrow.Author.Tests.{lt-ltb, le-ltb}
-use Rattle.frame.specs.Hex.{unhex, be}
+use Rattle.frame.specs.Hex.{be}
 use Rattle.frame.specs.Field.{big_at}
-use Rattle.frame.proofs.HexLaws.{byte_lt, length_be}
-use Rattle.frame.proofs.FieldLaws.{big_at_lt, field_back}
+use Rattle.frame.proofs.HexLaws.{length_be}
+use Rattle.frame.proofs.FieldLaws.{field_back}
 use Rattle.unit.specs.Kinds.{kind_listed}
 use Rattle.state.specs.State.{index_count, within, Shaped}
 use Rattle.state.specs.Listed.{words, listed_head, least_listed, number_place, index_place, words_at, state_at, state_back}
@@ -20,14 +19,6 @@ use Rattle.state.specs.declared.State.{State}
 use Rattle.state.proofs.FillLaws.{SoFar, fill_none, fill_more, fill_all}
 
 -- ---- the numbers of a frame, one by one
-
-pub word_is : (s : List ℕ) (at a b : ℕ) → a ≡ get_or s at 0 → b ≡ get_or s (at + 1) 0 → a * 256 + b ≡ big_at 2 s at
-unfolding big_at
-word_is s at a b e f = rw (e, f, add-zero, zero-mul, zero-add)
-
--- two bytes hold no more than a u16
-pub word_below : {v : ℕ} (line : List ℕ) (at : ℕ) → v ≡ big_at 2 (unhex line) at → v < 65536
-word_below line at e = rw e (big_at_lt 2 (unhex line) at (byte_lt line))
 
 pub length_words_at : (k : ℕ) (bs : List ℕ) (at : ℕ) → length (words_at k bs at) ≡ k
 unfolding words_at

@@ -1,12 +1,11 @@
 // The head of an 04 line: how the state is laid into it, and read back from it.
-ghost use Rattle.std.specs.Prelude.{◌≡◌, ◌*◌, ◌<◌, ◌≤◌, length};
+ghost use Rattle.std.specs.Prelude.{◌≡◌};
 ghost use Rattle.frame.specs.Hex.{unhex};
-ghost use Rattle.frame.specs.Field.{big_at};
-ghost use Rattle.state.specs.Listed.{listed_head, least_listed, state_at, state_back};
+ghost use Rattle.state.specs.Listed.{listed_head, state_at, state_back};
 
 use crate::State;
 use crate::listed::ListedLine;
-use frame::field::byte_at;
+use frame::field::{Digits, word_at};
 use unit::kind::Kind;
 
 // Kind, record number, and the indexes after the record.
@@ -26,23 +25,14 @@ pub fn bytes(number: u32, next: State) -> [u8; ListedLine::HEAD]
     head
 }
 
-// The u16 from byte `at` of the line's frame on.
-fn word_at(line: &[u8], at: usize) -> u32
-    requires { at < length line.now }
-    ensures { result ≡ big_at 2 (unhex line.now) at }
-{
-    u32::from(byte_at(line, at)) * 256 + u32::from(byte_at(line, at + 1))
-}
-
 // The state behind the record of an 04 line.
 fn state_at(line: &[u8]) -> State
-    requires { 2 * least_listed ≤ length line.now }
     ensures { result ≡ state_at (unhex line.now) }
 {
-    let number = word_at(line, ListedLine::NUMBER) + 1;
+    let number = word_at(Digits(line), ListedLine::NUMBER) + 1;
     let mut index = [0u32; State::INDEXES];
     for (j, taken) in index.iter_mut().enumerate() {
-        *taken = word_at(line, ListedLine::INDEX + 2 * j);
+        *taken = word_at(Digits(line), ListedLine::INDEX + 2 * j);
     }
     State { number, index }
 }
@@ -54,7 +44,7 @@ pub fn behind(line: &[u8], count: u32, counts: &[u32]) -> Option<State>
     if line.len() / 2 < ListedLine::LEAST {
         return None;
     }
-    let number = word_at(line, ListedLine::NUMBER);
+    let number = word_at(Digits(line), ListedLine::NUMBER);
     if count <= number {
         return None;
     }

@@ -28,6 +28,7 @@ impl State {
         State::INDEXES
     }
 
+    // No Default, nor for `Clips::none` and `Keep::new`: these names say what the zeros mean, and specs/ has them too.
     pub fn fresh() -> State
         ensures { result ≡ fresh_state }
     {

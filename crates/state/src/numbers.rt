@@ -5,7 +5,7 @@ ghost use Rattle.state.specs.Numbers.{state_length, no_state, state_of, state_in
 use crate::State;
 use unit::Unit;
 
-// How many numbers a state is.
+// How many numbers a state is: C lends it as a slice of so many.
 pub const STATE: usize = State::INDEXES + 1;
 
 // The number is its name in specs/: proved, and called by nothing.
@@ -15,7 +15,7 @@ fn tied() -> usize
     STATE
 }
 
-// A state that no unit has: 14 refuses it, after what is refused before.
+// A state that no unit has: 14 refuses it, after what is refused before. No Option: `state_of` in specs/ is a state, so that the order of refusals stays.
 fn no_state() -> State
     ensures { result ≡ no_state }
 {
@@ -25,6 +25,7 @@ fn no_state() -> State
     }
 }
 
+// The C interface lends numbers: here and in lampbuckle's numbers.rt each struct is read and laid by its own fields.
 pub fn read(n: &[u32]) -> State
     ensures { result ≡ state_of n.now }
 {

@@ -12,13 +12,13 @@ use std::ops::Range;
 // The last byte of a file that can be gone to.
 const PLACES: usize = 9_223_372_036_854_775_807;
 
-// The bytes of the buffer from `at` to `end` are read and not handed on yet; also behind an error, which tells of what follows them.
+// The bytes of the buffer from `at` to `end` are read and not handed on yet; also behind an error, which tells of what follows them. Places and no slice: the buffer is lent at each call, since one serves all files (fixed memory).
 #[derive(Drop)]
 pub struct Source<R> {
     pub file: R,
     pub at: usize,
     pub end: usize,
-    // There is nothing behind `end`: the file ends there, or cannot be read on.
+    // There is nothing behind `end`: the file ends there, or cannot be read on. No value hangs on it, and `WaitsFor` in specs/ names it.
     pub ended: bool,
 }
 
@@ -118,7 +118,7 @@ impl<R: Read> Source<R> {
         self.refill(buf)
     }
 
-    // The next line, where the buffer has room for a longest one; empty at the file's end.
+    // The next line, where the buffer has room for a longest one; empty at the file's end. `take`, `piece` and `pass_piece` share `ready`: how much each hands on is all that is left of them.
     pub fn take(&mut self, buf: &mut [u8]) -> Result<Range<usize>>
         ensures ok { IfOk result (λ t. HandedLine buf.old self.old buf.new t self.new) }
         ensures err { OnErr result (WaitsFor (line_digits + 1) buf.old self.old buf.new self.new) }

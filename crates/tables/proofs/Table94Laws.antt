@@ -10,7 +10,7 @@ use borrow.Author.Tests.{lt-ltb, le-ltb, lt-leb, le-leb, eq-eqb, ne_eqb, eqb-tru
 use lib.Dec.{ltb, leb, eqb}
 use lib.ListN.{length, take, drop}
 use lib.Seq.{drop-drop, take_all}
-use Rattle.refusal.specs.Answers.{fine}
+use Rattle.refusal.specs.Answers.{no_refusal}
 use Rattle.frame.proofs.HexLaws.{by_test}
 use Rattle.unit.specs.Unit.{class_p, class_n, class_m, class_i, class_hm}
 use Rattle.alphabet.specs.Table35.{letter_of, size_of}
@@ -91,7 +91,7 @@ module _ (k : ℕ) where
       (ap (λ l. (gap w e ++ mark alphabet e) ++ l)
       (operations_back alphabet until symbols (past w e) es (omega (arith, n, next_least e)) (rw n (sound_tail until symbols w.next e es s))))
 
-  refusal_back : (until symbols next : ℕ) (e : Edit) → k ≤ next → edit_refusal until symbols next e ≡ fine → edit_refusal (until - k) symbols (next - k) (back e) ≡ fine
+  refusal_back : (until symbols next : ℕ) (e : Edit) → k ≤ next → edit_refusal until symbols next e ≡ no_refusal → edit_refusal (until - k) symbols (next - k) (back e) ≡ no_refusal
   unfolding edit_refusal deletion_refusal
   refusal_back until symbols next e h z =
       let a = edit_accepted until symbols next e z in

@@ -1,7 +1,7 @@
 -- Laws of `decode`, by induction on the steps. Assumes nothing.
 use mathlib.Core.Path.{◌≡◌, refl, sym, ap, ◌∙◌}
 use mathlib.Core.Logic.{◌⊎◌, inl, inr, ⊎_elim}
-use mathlib.Core.Bool.{Bool, true}
+use mathlib.Core.Bool.{Bool, true, false, cond}
 use mathlib.Core.List.{List}
 use Prim.Native.Nat.{ℕ, ◌+◌, ◌<◌, ◌≤◌}
 use native.Mathlib.Omega.{arith}
@@ -9,12 +9,14 @@ use lib.Dec.{ltb, eqb}
 use lib.ListN.{length, get_or}
 use lib.Seq.{set_out}
 use borrow.Author.Tests.{ltb-true, ltb-false, eqb-true, eqb-false}
+use Rattle.std.specs.Prelude.{Ok, Err}
+use Rattle.refusal.specs.Answers.{after_ok}
 use Rattle.refusal.specs.declared.Refusal.{Refusal}
 use Rattle.refusal.specs.declared.Refusal.TheVariants.{UsedUp, ValueOut}
 use Rattle.unit.specs.Unit.{largest16}
 use Rattle.state.specs.State.{taken, raised}
 use Rattle.state.specs.declared.State.{State}
-use Rattle.taking.specs.Take.{symbol_of}
+use Rattle.taking.specs.Take.{symbol_of, narrow_of}
 use Rattle.taking.specs.Steps.{Steps, sets, takes, refuses, marks, within16, and_then, Came, came, stopped, with_symbol, decode, after_came}
 use Rattle.taking.proofs.Taking.{by_test, one_of, There, take_cases, raised_other, raised_same, raised_long}
 
@@ -40,7 +42,26 @@ pub then_stops : {A B : Type 0} (symbols counts : List ℕ) (m : Steps A) (f : A
     → decode symbols counts st (and_then m f) ≡ stopped n
 then_stops {A} symbols counts m f st n e = decode_then symbols counts m f st ∙ ap (λ (x : Came A). after_came x (λ b middle. decode symbols counts middle (f b))) e
 
--- what both come to
+-- ---- a value of at most 16 bits
+
+within_or_not : {A : Type 0} (symbols counts : List ℕ) (next : State) (v : ℕ) (go_on : ℕ → Steps A) (more : Bool)
+    → decode symbols counts next (cond more (refuses ValueOut) (go_on v)) ≡ with_symbol (cond more (Err ValueOut) (Ok (v, next))) (λ v next. decode symbols counts next (go_on v))
+unfolding decode
+within_or_not symbols counts next v go_on true = refl
+within_or_not symbols counts next v go_on false = refl
+
+-- a step that takes such a value is the code's `take_narrow`
+pub decode_narrow : {A : Type 0} (symbols counts : List ℕ) (st : State) (s : ℕ) (go_on : ℕ → Steps A)
+    → decode symbols counts st (takes s (λ v. within16 v (go_on v))) ≡ with_symbol (narrow_of symbols counts st s) (λ v next. decode symbols counts next (go_on v))
+unfolding decode narrow_of
+decode_narrow {A} symbols counts st s go_on =
+    take_cases symbols counts st s
+    (λ t. with_symbol t (λ v next. decode symbols counts next (within16 v (go_on v))) ≡ with_symbol (after_ok t (λ taken. cond (ltb largest16 taken.0) (Err ValueOut) (Ok taken))) (λ v next. decode symbols counts next (go_on v)))
+    refl
+    (λ there. within_or_not symbols counts (raised st s) (symbol_of symbols st s) go_on (ltb largest16 (symbol_of symbols st s)))
+
+-- ---- what both come to
+
 pub record CameThen {A B : Type 0} (symbols counts : List ℕ) (m : Steps A) (f : A → Steps B) (st : State) (b : B) (next : State) : Type 0 where
   pub value : A
   pub middle : State

@@ -4,7 +4,7 @@ use mathlib.Core.Path.{◌≡◌}
 use Prim.Native.Nat.{◌≤◌}
 use borrow.Author.Tests.{le-ltb}
 use Rattle.std.specs.Prelude.{⊤, Err}
-use Rattle.refusal.specs.Answers.{OrRefused, fine}
+use Rattle.refusal.specs.Answers.{OrRefused, no_refusal}
 use Rattle.refusal.specs.declared.Refusal.TheVariants.{UnitOut}
 use Rattle.frame.proofs.StepLaws.{past_refusal}
 use Rattle.unit.specs.Unit.{class_p, class_u, last_alphabet, most_segments, most_records, most_sequence, least_segments, unit_refusal}
@@ -21,10 +21,10 @@ pub record UnitValid (u : Unit) : Type 0 where
   pub records : u.records ≤ most_records
   pub sequence : u.sequence ≤ most_sequence
 
-pub valid_is : (u : Unit) → unit_refusal u ≡ fine → UnitValid u
+pub valid_is : (u : Unit) → unit_refusal u ≡ no_refusal → UnitValid u
 unfolding unit_refusal
 valid_is u e =
-    let out : ◌≡◌ {A = OrRefused ⊤} (Err UnitOut) fine → ⊥ = λ z. cc in
+    let out : ◌≡◌ {A = OrRefused ⊤} (Err UnitOut) no_refusal → ⊥ = λ z. cc in
     let a = past_refusal _ out u.class class_p _ e in
     let b = past_refusal _ out class_u u.class _ a.1 in
     let d = past_refusal _ out last_alphabet u.alphabet _ b.1 in
@@ -37,6 +37,6 @@ valid_is u e =
 
 -- and back: each field within its values
 pub valid_unit : (u : Unit) → class_p ≤ u.class → u.class ≤ class_u → u.alphabet ≤ last_alphabet → u.segments ≤ most_segments → least_segments u.class ≤ u.segments
-    → u.start ≤ u.end → u.records ≤ most_records → u.sequence ≤ most_sequence → unit_refusal u ≡ fine
+    → u.start ≤ u.end → u.records ≤ most_records → u.sequence ≤ most_sequence → unit_refusal u ≡ no_refusal
 unfolding unit_refusal
 valid_unit u a b d e f g h i = simp (le-ltb _ _ a, le-ltb _ _ b, le-ltb _ _ d, le-ltb _ _ e, le-ltb _ _ f, le-ltb _ _ g, le-ltb _ _ h, le-ltb _ _ i)

@@ -1,7 +1,7 @@
 -- The unit's values (document 01, Lines: 01 unit) and refusal 3.
 -- Assumes nothing.
 use Rattle.std.specs.Prelude.{ℕ, cond, eqb, ltb, ⊤, Err}
-use Rattle.refusal.specs.Answers.{OrRefused, fine}
+use Rattle.refusal.specs.Answers.{OrRefused, no_refusal}
 use Rattle.refusal.specs.declared.Refusal.TheVariants.{UnitOut}
 use Rattle.unit.specs.declared.Unit.{Unit}
 pub use Rattle.limits.specs.Limits.{most_segments}
@@ -64,4 +64,4 @@ unit_refusal u =
     (cond (ltb u.segments (least_segments u.class)) (Err UnitOut)
     (cond (ltb u.end u.start) (Err UnitOut)
     (cond (ltb most_records u.records) (Err UnitOut)
-    (cond (ltb most_sequence u.sequence) (Err UnitOut) fine)))))))
+    (cond (ltb most_sequence u.sequence) (Err UnitOut) no_refusal)))))))

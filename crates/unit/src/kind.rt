@@ -1,4 +1,4 @@
-// The first byte of a line says what the line is.
+// The first byte of a line says what the line is. No enum: a reader compares the byte with the kind that it wants, and every other byte, of no line too, goes one way.
 ghost use Rattle.std.specs.Prelude.{◌≡◌, [], ◌∷◌};
 ghost use Rattle.unit.specs.Kinds.{kind_unit, kind_pair, kind_record, kind_listed, kind_refused, kind_done, kind_reference};
 

@@ -24,7 +24,7 @@ pub struct Unit {
 }
 
 impl Unit {
-    // The classes, as the unit line numbers them.
+    // The classes, as the unit line numbers them. No enum, nor for alphabets: `class` and `alphabet` are public, C lends any number, and `check` refuses by 3.
     pub const P: u32 = 1;
 
     pub const N: u32 = 2;

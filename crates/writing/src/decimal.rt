@@ -1,4 +1,4 @@
-// Numbers in base 10, by recursion on the quotient by ten.
+// Numbers in base 10, by recursion on the quotient by ten. No Display: each character is laid as two digits of a lent line, and nothing has memory of its own.
 ghost use Rattle.std.specs.Prelude.{◌≡◌, ◌+◌, ◌*◌, ◌≤◌, length};
 ghost use Rattle.writing.specs.Lay.{Laid};
 ghost use Rattle.writing.specs.Decimal.{decimal};

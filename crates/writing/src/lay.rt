@@ -7,6 +7,7 @@ ghost use Rattle.writing.specs.Whole.{wrote_of, line_into};
 use frame::line::Line;
 use refusal::Refusal;
 
+// No `from_digit`: it answers an Option of a char.
 fn digit_of(n: u8) -> u8
     requires { n < 16 }
     ensures { result ≡ glyph n }
@@ -23,12 +24,12 @@ pub fn put_byte(out: &mut [u8], at: usize, b: u8) -> usize
     at + 2
 }
 
-// The low byte of a number.
+// The low byte of a number. The two below are each the one before, twice; one function of k bytes would be a loop with a power of 256, which is no plainer.
 pub fn put_u8(out: &mut [u8], at: usize, v: u32) -> usize
     requires { at + 2 ≤ length out.old }
     ensures { Laid out.old out.new at result (be 1 v) }
 {
-    put_byte(out, at, (v % 256) as u8)
+    put_byte(out, at, v.to_be_bytes()[3])
 }
 
 // The low two bytes of a number.

@@ -2,7 +2,7 @@
 -- What the private functions under a match promise, and how far a pointer can come.
 -- Assumes nothing.
 use Rattle.std.specs.Prelude.{ℕ, zero, suc, ◌+◌, ◌-◌, cond, List, ltb, leb, get_or, ⊤, Err}
-use Rattle.refusal.specs.Answers.{OrRefused, fine}
+use Rattle.refusal.specs.Answers.{OrRefused, no_refusal}
 use Rattle.refusal.specs.declared.Refusal.TheVariants.{SymbolOut}
 use Rattle.alphabet.specs.Table35.{size_of}
 
@@ -27,7 +27,7 @@ highest most symbols at (suc n) = highest (higher most (get_or symbols at 0)) sy
 
 -- refusal 10 of n symbols, from a place on
 unfoldable pub symbols_refusal : (alphabet : ℕ) (symbols : List ℕ) (at n : ℕ) → OrRefused ⊤
-symbols_refusal alphabet symbols at zero = fine
+symbols_refusal alphabet symbols at zero = no_refusal
 symbols_refusal alphabet symbols at (suc n) =
     cond (leb (size_of alphabet) (get_or symbols at 0)) (Err SymbolOut) (symbols_refusal alphabet symbols (at + 1) n)
 

@@ -1,5 +1,5 @@
 -- `decoder::last_turn` meets its contract: the tests on the way pick the last line. Assumes nothing.
-use Rattle.decoder.proofs.TurnLaws.{last_behind, last_done, last_left}
+use Rattle.decoder.proofs.TurnLaws.{finish_told, last_behind, last_done, last_left}
 use Rattle.decoder.proofs.last_turn.Goals as goal
 
 pub returns-then-line-ne0 : goal.returns-then-line-ne0
@@ -9,7 +9,8 @@ returns-then-line-ne0 c =
 
 pub returns-then-all_taken : goal.returns-then-all_taken
 returns-then-all_taken c =
-    let seen = last_done _ _ _ _ _ _ c.all_taken.ensures c.if-line-ne0.false c.if-all_taken.true (c.finish.ensures.value, c.finish.ensures.out_after) in
+    let whole = finish_told _ _ _ c.requires (c.write_done.ensures.value, c.write_done.ensures.out_after) c.stopped.ensures in
+    let seen = last_done _ _ _ _ _ _ c.all_taken.ensures c.if-line-ne0.false c.if-all_taken.true whole in
     record { value = seen.0; out_after = seen.1 }
 
 pub returns : goal.returns

@@ -2,7 +2,7 @@
 -- What is kept from edit to edit to say whether each deletion is flanked: `flank_on` and `flank_end_lem` (proofs/FlankLaws) show that it comes to `flank_refusal`.
 -- Assumes nothing.
 use Rattle.std.specs.Prelude.{ℕ, ◌-◌, Bool, false, cond, ◌&&◌, List, ltb, eqb, ⊤, Err}
-use Rattle.refusal.specs.Answers.{OrRefused, fine}
+use Rattle.refusal.specs.Answers.{OrRefused, no_refusal}
 use Rattle.refusal.specs.declared.Refusal.TheVariants.{OffsetOut}
 use Rattle.frame.specs.Steps.{unless}
 use Rattle.edits.specs.Edits.{insertion, deletion}
@@ -35,12 +35,12 @@ flank_past f next e = cond (ltb next e.offset) (flank_of (past_base f) e.kind) (
 
 -- behind the last edit, with the match behind it where there is one: of a deletion that waits for a base behind it
 unfoldable pub open_end : (next mapped : ℕ) → OrRefused ⊤
-open_end next mapped = unless (ltb next mapped) (Err OffsetOut) fine
+open_end next mapped = unless (ltb next mapped) (Err OffsetOut) no_refusal
 
 -- and in all
 abbrev pub flank_end : Flank → (next mapped : ℕ) → OrRefused ⊤
-flank_end Before next mapped = fine
-flank_end Based next mapped = fine
+flank_end Before next mapped = no_refusal
+flank_end Based next mapped = no_refusal
 flank_end Open next mapped = open_end next mapped
 flank_end Bare next mapped = Err OffsetOut
 

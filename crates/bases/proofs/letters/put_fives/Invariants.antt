@@ -1,8 +1,9 @@
 -- `bases::letters::put_fives` meets its contract. The loop's invariant: to lay what is left, from here, gives what laying the whole gives. Assumes nothing.
-use Prim.Native.Nat.{◌+◌, ◌-◌}
+use Prim.Native.Nat.{◌-◌}
+use lib.ListN.{length}
 use Rattle.writing.proofs.LayLaws.{Rest}
 use Rattle.bases.specs.Bases.{letters_at}
 use Rattle.bases.proofs.letters.put_fives.Given as goal
 
 abbrev pub invariant-loop-symbol : goal.invariant-loop-symbol
-invariant-loop-symbol l = Rest l.out l.next (letters_at 0 l.symbols (l.start + l.symbol-index) (l.end - (l.start + l.symbol-index))) l.initial.out l.at (letters_at 0 l.symbols l.start (l.end - l.start))
+invariant-loop-symbol l = Rest l.out l.next (letters_at 0 l.symbols l.symbol-index (length l.symbols - l.symbol-index)) l.initial.out l.at (letters_at 0 l.symbols 0 (length l.symbols - 0))

@@ -4,4 +4,4 @@ use mathlib.Core.Path.{sym}
 use Rattle.edits.proofs.edit.offset_at.Goals as goal
 
 pub returns : goal.returns
-returns c = rw (c.from.ensures, c.from-2.ensures) (sym (offset_bytes _ _))
+returns c = rw c.from_be_bytes.ensures (sym (offset_bytes _ _))

@@ -1,11 +1,19 @@
--- `front::pair_line::symbol_at` meets its contract: the field is complete. Assumes nothing.
-use mathlib.Core.Path.{sym, ◌∙◌}
-use Rattle.front.specs.PairLine.{symbol_bytes}
-use Rattle.frame.proofs.FieldLaws.{value_is_field, never_short}
+-- `front::pair_line::symbol_at` meets its contract: four bytes, the high one first. Assumes nothing.
+use native.Mathlib.Nat.{add-zero}
+use native.Mathlib.Omega.{arith}
+use Rattle.frame.specs.Field.{big_at}
+use Rattle.frame.proofs.HexLaws.{length_unhex}
 use Rattle.front.proofs.pair_line.symbol_at.Goals as goal
 
-pub returns-in-Ok : goal.returns-in-Ok
-returns-in-Ok c = (value_is_field symbol_bytes _ _ _ _ (sym c.in-Ok.is ∙ c.read_u32.ensures)).number
+pub overflow_add-at : goal.overflow_add-at
+overflow_add-at c = omega (arith, rw length_unhex at c.requires)
 
-pub returns-in-Err : goal.returns-in-Err
-returns-in-Err c = never_short symbol_bytes _ _ c.requires (sym c.in-Err.is ∙ c.read_u32.ensures)
+pub overflow_add-at-2 : goal.overflow_add-at-2
+overflow_add-at-2 c = omega (arith, rw length_unhex at c.requires)
+
+pub overflow_add-at-3 : goal.overflow_add-at-3
+overflow_add-at-3 c = omega (arith, rw length_unhex at c.requires)
+
+pub returns : goal.returns
+unfolding big_at
+returns c = rw (c.from_be_bytes.ensures, c.byte_at.ensures, c.byte_at-2.ensures, c.byte_at-3.ensures, c.byte_at-4.ensures, add-zero) (omega arith)

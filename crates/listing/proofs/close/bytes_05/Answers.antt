@@ -5,4 +5,4 @@ use Rattle.listing.proofs.close.bytes_05.Goals as goal
 
 pub returns : goal.returns
 unfolding be
-returns c = simp div-one
+returns c = rw (c.to_be_bytes.ensures, c.to_be_bytes-2.ensures) (simp div-one)

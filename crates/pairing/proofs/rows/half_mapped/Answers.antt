@@ -1,18 +1,14 @@
 -- `pairing::rows::half_mapped` meets its contract, by the rules of `With`. Assumes nothing.
 use mathlib.Core.Path.{refl}
 use Rattle.std.proofs.lemmas.Result.{err_from_is_err_and}
-use Rattle.pairing.proofs.With.{done, decode_given, decode_missing, fits, above}
+use Rattle.pairing.proofs.With.{done, narrow_given, narrow_missing}
 use Rattle.pairing.specs.Table60.{HM_same_rec}
 use Rattle.pairing.proofs.rows.half_mapped.Goals as goal
 
 pub returns-in_err-v : goal.returns-in_err-v
 unfolding HM_same_rec
-returns-in_err-v c = let p = err_from_is_err_and c.from_residual.result c.from_residual.ensures.1 in rw (p.1, p.2) (decode_missing _ _ _ _ _ _ _ c.take.ensures _ c.in_err-v.was refl)
-
-pub returns-then-v-gt-LARGEST16 : goal.returns-then-v-gt-LARGEST16
-unfolding HM_same_rec
-returns-then-v-gt-LARGEST16 c = decode_given _ _ _ _ _ _ _ c.take.ensures _ _ c.in_ok-v.was (above _ _ _ _ _ _ c.if-v-gt-LARGEST16.true refl)
+returns-in_err-v c = let p = err_from_is_err_and c.from_residual.result c.from_residual.ensures.1 in rw (p.1, p.2) (narrow_missing _ _ _ _ _ _ _ c.take_narrow.ensures _ c.in_err-v.was refl)
 
 pub returns : goal.returns
 unfolding HM_same_rec
-returns c = decode_given _ _ _ _ _ _ _ c.take.ensures _ _ c.in_ok-v.was (fits _ _ _ _ _ _ c.if-v-gt-LARGEST16.false (done _ _ _ _ _ _ _ _ _ _ _ refl c.new.ensures c.read_first.ensures refl))
+returns c = narrow_given _ _ _ _ _ _ _ c.take_narrow.ensures _ _ c.in_ok-v.was (done _ _ _ _ _ _ _ _ _ _ _ refl c.new.ensures c.read_first.ensures refl)

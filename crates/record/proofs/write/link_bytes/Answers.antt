@@ -6,4 +6,4 @@ use Rattle.record.proofs.write.link_bytes.Goals as goal
 
 pub returns : goal.returns
 unfolding link_bytes be
-returns c = simp (div-one, c.mate_sequence-sequence.ensures, c.mate_position-position.ensures.value)
+returns c = rw (c.to_be_bytes-sequence.ensures, c.to_be_bytes-position.ensures, c.to_be_bytes.ensures, c.to_be_bytes-2.ensures, c.to_be_bytes-3.ensures) (simp (div-one, c.mate_sequence.ensures, c.mate_position.ensures.value))

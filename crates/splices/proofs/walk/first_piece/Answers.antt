@@ -7,4 +7,4 @@ cut_piece-requires c = rw c.run_of-run.ensures c.requires.framed
 
 pub returns : goal.returns
 unfolding first_piece
-returns c = rw (c.run_of-run.ensures, c.length_at.ensures.0) at c.cut_piece.ensures
+returns c = rw (c.run_of-run.ensures, c.word_at.ensures.0) at c.cut_piece.ensures

@@ -21,7 +21,7 @@ cut_piece-requires c = rw c.width.ensures (omega (arith, c.requires.framed, add-
 pub returns : goal.returns
 unfolding next_piece
 returns c =
-    let at_length = c.length_at-length.ensures in
+    let at_length = c.word_at-length.ensures in
     let follows = c.following_piece-mapping.ensures in
     let m = follows.0 ∙ ap (λ (n : ℕ). following c.args.symbols.now c.args.w.mapping n) at_length.0 in
-    (rw (c.width.ensures, c.length_at.ensures.0, m) at c.cut_piece.ensures, λ left h. rw (c.cut_piece.ensures, cut_mapping) (follows.1 left (omega (arith, at_length.1)) h))
+    (rw (c.width.ensures, c.word_at.ensures.0, m) at c.cut_piece.ensures, λ left h. rw (c.cut_piece.ensures, cut_mapping) (follows.1 left (omega (arith, at_length.1)) h))

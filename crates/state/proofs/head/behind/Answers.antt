@@ -1,5 +1,4 @@
 -- `state::head::behind` meets its contract: the tests on the way pick the case. Assumes nothing.
-use native.Mathlib.Omega.{arith}
 use mathlib.Core.Path.{sym, ◌∙◌}
 use Rattle.frame.specs.Hex.{unhex}
 use Rattle.frame.proofs.HexLaws.{length_unhex}
@@ -9,22 +8,16 @@ use Rattle.state.proofs.head.behind.Goals as goal
 pub returns-then-line-lt-LEAST : goal.returns-then-line-lt-LEAST
 returns-then-line-lt-LEAST c = back_short c.args.count c.args.counts.now (unhex c.args.line.now) _ (sym (length_unhex c.args.line.now)) c.if-line-lt-LEAST.true
 
-pub word_at-number-requires : goal.word_at-number-requires
-word_at-number-requires c = omega arith
-
 pub returns-then-count-number : goal.returns-then-count-number
 returns-then-count-number c =
-    back_far c.args.count c.args.counts.now (unhex c.args.line.now) _ (sym (length_unhex c.args.line.now)) c.if-line-lt-LEAST.false _ c.word_at-number.ensures c.if-count-number.true
-
-pub state_at-state-requires : goal.state_at-state-requires
-state_at-state-requires c = let h = c.if-line-lt-LEAST.false in omega arith
+    back_far c.args.count c.args.counts.now (unhex c.args.line.now) _ (sym (length_unhex c.args.line.now)) c.if-line-lt-LEAST.false _ c.word_at-number.ensures.0 c.if-count-number.true
 
 pub returns-then-not-within : goal.returns-then-not-within
 returns-then-not-within c =
-    back_above c.args.count c.args.counts.now (unhex c.args.line.now) _ (sym (length_unhex c.args.line.now)) c.if-line-lt-LEAST.false _ c.word_at-number.ensures c.if-count-number.false _ c.state_at-state.ensures
+    back_above c.args.count c.args.counts.now (unhex c.args.line.now) _ (sym (length_unhex c.args.line.now)) c.if-line-lt-LEAST.false _ c.word_at-number.ensures.0 c.if-count-number.false _ c.state_at-state.ensures
     (sym c.within.ensures ∙ c.if-not-within.true)
 
 pub returns : goal.returns
 returns c =
-    back_fits c.args.count c.args.counts.now (unhex c.args.line.now) _ (sym (length_unhex c.args.line.now)) c.if-line-lt-LEAST.false _ c.word_at-number.ensures c.if-count-number.false _ c.state_at-state.ensures
+    back_fits c.args.count c.args.counts.now (unhex c.args.line.now) _ (sym (length_unhex c.args.line.now)) c.if-line-lt-LEAST.false _ c.word_at-number.ensures.0 c.if-count-number.false _ c.state_at-state.ensures
     (sym c.within.ensures ∙ c.if-not-within.false)

@@ -4,4 +4,4 @@ use Rattle.writing.proofs.LayLaws.{laid_as}
 use Rattle.writing.proofs.lay.put_u8.Goals as goal
 
 pub returns : goal.returns
-returns c = laid_as (be_one _) c.put_byte.ensures
+returns c = laid_as (be_one _) (rw c.to_be_bytes.ensures at c.put_byte.ensures)
