@@ -2,9 +2,9 @@
 -- Assumes nothing.
 use mathlib.Core.Path.{◌≡◌, refl, sym, ap, ◌∙◌}
 use mathlib.Core.List.{List}
-use Prim.Native.Nat.{ℕ, ◌-◌, ◌≤◌}
+use Prim.Native.Nat.{ℕ, ◌-◌, ◌<◌, ◌≤◌}
 use native.Mathlib.Omega.{arith}
-use borrow.Author.Tests.{le-ltb}
+use borrow.Author.Tests.{le-ltb, lt-ltb}
 use Rattle.std.specs.Prelude.{Ok, Err}
 use Rattle.refusal.specs.Answers.{OrRefused}
 use Rattle.refusal.specs.declared.Refusal.{Refusal}
@@ -20,7 +20,7 @@ use Rattle.taking.proofs.Decoding.{then_goes, then_stops, then_came}
 use Rattle.edits.specs.Pieces.{SignedPosition, straight}
 use Rattle.splices.specs.Table62.{spliced_seg_mapping_pos}
 use Rattle.splices.specs.Code.Taken.{symbols_moved, splice_turns}
-use Rattle.splices.specs.Located.{positions_from, lengths_in, first_mapping}
+use Rattle.splices.specs.Located.{unspliced, positions_from, lengths_in, first_mapping}
 use Rattle.splices.proofs.TakenLaws.{turns_moved}
 use Rattle.splices.proofs.MappingLaws.{positions_found}
 use Rattle.block.specs.Checked.{length_at, rcomp_at, number_at, lengths_at}
@@ -109,3 +109,13 @@ module _ (symbols counts : List ℕ) (st : State) (h : BlockHead) (next : State)
       (λ rcomp b f s. checked_came (number_at frame b.at) _ (rw (le-ltb class class_i l) at s)
       (λ count c g t. checked_came (lengths_at frame readLength count c.at) _ t
       (λ sum d i u. splices_came frame position readLength rcomp count c.at d u))))
+
+  -- before I it takes no symbol
+  pub head_plain : (class : ℕ) (frame : List ℕ) (position at : ℕ) → class < class_i → decode symbols counts st (head_at class frame position at) ≡ came h next → (next ≡ st) × (h.splices ≡ unspliced)
+  unfolding head_at from_rcomp from_pieces decode
+  head_plain class frame position at l q =
+      checked_came (length_at frame at) _ q
+      (λ readLength a e r. checked_came (rcomp_at class frame a.at) _ r
+      (λ rcomp b f s.
+      let t : ◌≡◌ {A = Came BlockHead} (came (record { length = readLength; rcomp = rcomp; splices = unspliced; next = record { at = b.at } }) st) (came h next) = rw (lt-ltb class class_i l) at s in
+      (cc, ap (λ (x : BlockHead). x.splices) (sym (let w : ◌≡◌ {A = BlockHead} (record { length = readLength; rcomp = rcomp; splices = unspliced; next = record { at = b.at } }) h = cc in w)))))

@@ -33,6 +33,7 @@ use Rattle.edits.specs.Pieces.{straight, sum_of, last_length}
 use Rattle.edits.proofs.PieceLaws.{NoneZero}
 use Rattle.splices.specs.Table62.{spliced_seg_mapping_pos}
 use Rattle.splices.specs.Located.{unspliced, lengths_in}
+use Rattle.splices.specs.Code.Walk.{Begun}
 use Rattle.splices.specs.declared.Splices.{Splices}
 use Rattle.ecigar.specs.Check.{check_of}
 use Rattle.ecigar.specs.Ecigar.{ecigar_text, OfItsClass}
@@ -223,6 +224,10 @@ pub record ReadyBlock (class alphabet : ℕ) (frame : List ℕ) (a : AlignedBloc
 pub of_its_class : (class alphabet : ℕ) (frame : List ℕ) (a : AlignedBlock) → ReadyBlock class alphabet frame a → class_p ≤ class → class ≤ class_hm → OfItsClass class a.block
 of_its_class class alphabet frame a r first last =
     record { first = first; last = last; clips = r.sides.bare; edits = r.plain; mapped = omega (arith, r.sides.soft) }
+
+-- of several pieces the first can be looked at
+pub block_begun : (class alphabet : ℕ) (frame : List ℕ) (a : AlignedBlock) → ReadyBlock class alphabet frame a → 2 ≤ a.splices.count → Begun class frame a.block a.splices
+block_begun class alphabet frame a r h = record { lengths = omega (arith, r.splices.inside h); clip = omega (arith, r.left h); framed = r.framed }
 
 -- the edits, where the block's other fields are accepted
 pub tallied_ready : (class alphabet : ℕ) (frame : List ℕ) (s : Block) (x : Splices) (a : AlignedBlock) → edits_tallied class alphabet frame s x ≡ Ok a

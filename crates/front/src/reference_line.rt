@@ -10,14 +10,20 @@ use refusal::Refusal;
 use unit::Unit;
 use unit::kind::Kind;
 
-// The most symbol indexes of a line.
-pub const BASES: usize = 1_000;
+// A reference line's measure.
+#[derive(Clone, Copy)]
+pub struct ReferenceLine {}
 
-// The number is its name in specs/: proved, and called by nothing.
-fn tied() -> usize
-    ensures { result ≡ most_line_bases }
-{
-    BASES
+impl ReferenceLine {
+    // The most symbol indexes of a line.
+    pub const BASES: usize = 1_000;
+
+    // The number is its name in specs/: proved, and called by nothing.
+    fn tied() -> usize
+        ensures { result ≡ most_line_bases }
+    {
+        ReferenceLine::BASES
+    }
 }
 
 // The answer to n bases more, where places are lent and used of them hold a base: C lends its whole reference, and `used` beside it, with each line.
@@ -27,7 +33,7 @@ fn add_bases(n: usize, used: usize, places: usize) -> Result<usize, Refusal>
     if n < 1 {
         return Err(Refusal::Misframed);
     }
-    if BASES < n {
+    if ReferenceLine::BASES < n {
         return Err(Refusal::Misframed);
     }
     if places < used {

@@ -11,14 +11,20 @@ use unit::Unit;
 use unit::kind::Kind;
 use writing::lay::write_line;
 
-// The bytes of the line.
-pub const BYTES: usize = 20;
+// A unit line's measure.
+#[derive(Clone, Copy)]
+pub struct UnitLine {}
 
-// The number is its name in specs/: proved, and called by nothing.
-fn tied() -> usize
-    ensures { result ≡ unit_line_bytes }
-{
-    BYTES
+impl UnitLine {
+    // The bytes of the line.
+    pub const BYTES: usize = 20;
+
+    // The number is its name in specs/: proved, and called by nothing.
+    fn tied() -> usize
+        ensures { result ≡ unit_line_bytes }
+    {
+        UnitLine::BYTES
+    }
 }
 
 // AU start and end, the record count, and nothing behind it.
@@ -106,10 +112,10 @@ pub fn read(line: &[u8]) -> Result<Unit, Refusal>
 }
 
 // Kind, class, alphabet, template segments, sequence id, position of the first lent reference base, AU start, AU end and record count.
-fn bytes_of(unit: Unit) -> [u8; BYTES]
+fn bytes_of(unit: Unit) -> [u8; UnitLine::BYTES]
     ensures { result ≡ unit_bytes unit }
 {
-    let mut bytes = [0u8; BYTES];
+    let mut bytes = [0u8; UnitLine::BYTES];
     bytes[0] = Kind::UNIT as u8;
     bytes[1] = unit.class.to_be_bytes()[3];
     bytes[2] = unit.alphabet.to_be_bytes()[3];
