@@ -3,7 +3,7 @@
 
 ghost use Rattle.std.specs.Prelude.{◌≤◌, length, IfOk};
 
-use front::unit_line;
+use front::unit_line::UnitLine;
 use kept::keep::Keep;
 use opening::files::FrontRead;
 use opening::first::write_first;
@@ -20,7 +20,7 @@ use stream::source::Source;
 const EDGE: usize = ListedLine::DIGITS + 2;
 
 // The bytes of a unit line, which is the longest first line, with its 0A.
-const FIRST: usize = 2 * unit_line::BYTES + 1;
+const FIRST: usize = 2 * UnitLine::BYTES + 1;
 
 // Where the listing goes on, and how many bytes are kept.
 #[derive(Clone, Copy)]
@@ -62,7 +62,8 @@ fn record_count(front: FrontRead) -> u32 {
     }
 }
 
-// The first and the last kept line are read again, and put beside the listing's first line. Arrays, and how much of them is used: the memory is fixed.
+// The first and the last kept line are read again, and put beside the listing's first line. Arrays, and how much of them is used: the memory is fixed. On its own, so that they lie on the stack while it runs and no longer.
+#[inline(never)]
 #[tactic(auto, using(opening::proofs::FirstLaws::first_within))]
 fn look(file: &File, keep: Keep, front: FrontRead, counts: &[u32]) -> io::Result<Found> {
     let mut first = [0u8; EDGE];
@@ -105,18 +106,18 @@ pub fn copy(
     buf: &mut [u8],
 ) -> Result<(), Failed> {
     let mut source = Source::new(file);
-    let mut read = source.go_to(0);
+    // Where it cannot be gone to its start, the first read says so again.
+    let _ = source.go_to(0);
     let mut left = kept;
     // No `for`: what is left goes down by as much as was read, which no range steps by.
     while left > 0 {
-        read = read.and(source.ready(buf, 1));
-        let from = source.at;
-        let n = left.min(source.end - from);
+        let read = source.ready(buf, 1);
+        let part = source.waiting();
+        let n = left.min(part.end - part.start);
         if n == 0 {
             return Err(say_short(rt, path, read));
         }
-        write(rt, &buf[from..from + n])?;
-        source.at += n;
+        write(rt, &buf[part.start..part.start + n])?;
         left -= n;
     }
     Ok(())

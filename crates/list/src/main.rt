@@ -6,16 +6,17 @@ use opening::files::open;
 use opening::first::add_first;
 use program::args::{count, path, say_usage};
 use program::buffer::{path_buffer, piece_buffer};
-use program::sink::Sink;
+use program::sink::Gathered;
 use program::system::Failed;
 use rest::rest;
 use state::State;
 use unit::{Pairs, Unit};
 
-const USAGE: &[u8] = b"usage: list [REFERENCE UNIT]
-Writes the listing of a unit to standard output.
-Without paths it reads reference.hex and unit.hex.
-";
+const USAGE: [&[u8]; 3] = [
+    b"usage: list [REFERENCE UNIT]\n",
+    b"Writes the listing of a unit to standard output.\n",
+    b"Without paths it reads reference.hex and unit.hex.\n",
+];
 
 fn list(rt: &HostRuntime, reference_path: &[u8], unit_path: &[u8]) -> Result<(), Failed> {
     let mut buf = piece_buffer();
@@ -30,12 +31,13 @@ fn list(rt: &HostRuntime, reference_path: &[u8], unit_path: &[u8]) -> Result<(),
         &mut reference,
         &mut symbols,
     )?;
-    let mut sink = Sink::new(rt, &mut out);
-    add_first(&mut sink, files.front)?;
-    rest(&mut files, State::fresh(), &mut sink)
+    let mut lines = Gathered::new(rt, &mut out);
+    add_first(&mut lines, files.front)?;
+    rest(&mut files, State::fresh(), &mut lines)
 }
 
-// The same in resume, and no function for both: the paths lie in arrays of each program, since no memory is asked for.
+// The same in resume, and no function for both: the paths lie in arrays of each program, since no memory is asked for. On its own, so that they lie on the stack only where paths are given.
+#[inline(never)]
 fn list_named(rt: &HostRuntime) -> Result<(), Failed> {
     let mut reference = path_buffer();
     let mut unit = path_buffer();
@@ -50,7 +52,7 @@ fn main(rt: HostRuntime) {
         0 | 1 => list(&rt, b"reference.hex", b"unit.hex"),
         3 => list_named(&rt),
         _ => {
-            say_usage(&rt, USAGE);
+            say_usage(&rt, &USAGE);
             Ok(())
         }
     };

@@ -1,5 +1,7 @@
 // The front of the two files: the reference, which is read first and whole, then the unit line and the pair lines.
-ghost use Rattle.std.specs.Prelude.{◌≤◌, length, IfOk};
+ghost use Rattle.std.specs.Prelude.{◌≡◌, ◌≤◌, length, IfOk};
+ghost use Rattle.stream.specs.Source.{HandedLine};
+ghost use Rattle.opening.specs.Files.{SameFront};
 
 use front::{pair_line, reference_line, unit_line};
 use program::system::{Failed, fail, open_read};
@@ -42,7 +44,8 @@ pub struct OpenFiles<'f, 'b> {
 impl OpenFiles<'_, '_> {
     // The next line of the unit file, or its end, an empty part of the buffer. Where it cannot be read, that is said.
     pub fn take(&mut self, rt: &HostRuntime) -> Result<Range<usize>, Failed>
-        ensures { IfOk result (λ t. (t.start ≤ t.end) × (t.end ≤ length self.new.buf.now)) }
+        ensures line { IfOk result (λ t. HandedLine self.old.buf.now self.old.source self.new.buf.now t self.new.source) }
+        ensures others { SameFront self.old self.new }
     {
         let path = self.unit_path;
         let buf = &mut *self.buf;
@@ -50,7 +53,9 @@ impl OpenFiles<'_, '_> {
     }
 
     // Passes over so many lines of the unit file; the answer is how many it has too few. Where it cannot be read, that is said.
-    pub fn pass_lines(&mut self, rt: &HostRuntime, want: usize) -> Result<usize, Failed> {
+    pub fn pass_lines(&mut self, rt: &HostRuntime, want: usize) -> Result<usize, Failed>
+        ensures { SameFront self.old self.new }
+    {
         let path = self.unit_path;
         let buf = &mut *self.buf;
         self.source
@@ -102,7 +107,8 @@ fn read_pairs(
     Ok(Ok(counts))
 }
 
-// The unit file up to its record lines.
+// The unit file up to its record lines. Laid into no caller: where a file is opened the stack is at its highest, and none of this is on it then.
+#[inline(never)]
 fn read_unit(
     source: &mut Source<File>,
     buf: &mut [u8],
@@ -130,7 +136,9 @@ pub fn open<'f, 'b>(
     buf: &'b mut [u8],
     reference: &'f mut [u8],
     symbols: &'f mut [u32],
-) -> Result<OpenFiles<'f, 'b>, Failed> {
+) -> Result<OpenFiles<'f, 'b>, Failed>
+    ensures { IfOk result (λ f. (length f.buf.now ≡ length buf.old) × ((length f.symbols.now ≡ length symbols.old) × (f.unit_path.now ≡ unit_path.now))) }
+{
     let based = read_reference(rt, reference_path, buf, reference).map_err(|cause| fail(
         rt,
         reference_path,

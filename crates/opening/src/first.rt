@@ -1,11 +1,12 @@
 // The listing's first line, by what the front of the files is.
-ghost use Rattle.std.specs.Prelude.{◌≡◌};
+ghost use Rattle.std.specs.Prelude.{◌≡◌, length};
+ghost use Rattle.program.specs.Sink.{place_in};
 ghost use Rattle.opening.specs.First.{first_wrote, first_into};
 
 use crate::files::FrontRead;
 use front::unit_line;
 use listing::close;
-use program::sink::Sink;
+use program::sink::Gathered;
 use program::system::Failed;
 use refusal::Refusal;
 
@@ -22,9 +23,12 @@ pub fn write_first(out: &mut [u8], front: FrontRead) -> Result<usize, Refusal>
     }
 }
 
-// That line is gathered.
-pub fn add_first(sink: &mut Sink, front: FrontRead) -> Result<(), Failed> {
-    sink.make_room()?;
-    let wrote = write_first(&mut sink.out[sink.used..], front);
-    sink.add(wrote)
+// That line is gathered. The answer is how many bytes are.
+pub fn add_first(lines: &mut Gathered, front: FrontRead) -> Result<usize, Failed>
+    ensures long { length lines.new.out.now ≡ length lines.old.out.now }
+    ensures place { result ≡ place_in lines.new.sink.used }
+{
+    let at = lines.make_room()?;
+    let wrote = write_first(&mut lines.out[at..], front);
+    lines.add(wrote)
 }

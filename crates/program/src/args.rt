@@ -16,18 +16,24 @@ pub fn count(rt: &HostRuntime) -> usize {
 }
 
 // Whether the first argument asks for help.
-fn asks_help(rt: &HostRuntime) -> bool {
+pub fn asks_help(rt: &HostRuntime) -> bool {
     let mut word = [0u8; 6];
     matches!(rt.arg(1, &mut word), Ok(6)) && word == *b"--help"
 }
 
-// Writes how a program is used: to standard output where that is asked for, else to standard error.
-pub fn say_usage(rt: &HostRuntime, usage: &[u8]) {
-    let _ = if asks_help(rt) {
-        rt.stdout().write_all(usage)
+fn say_lines(out: &impl Print, lines: &[&[u8]]) {
+    for line in lines {
+        let _ = out.write_all(line);
+    }
+}
+
+// Writes how a program is used, line by line: to standard output where that is asked for, else to standard error.
+pub fn say_usage(rt: &HostRuntime, usage: &[&[u8]]) {
+    if asks_help(rt) {
+        say_lines(&rt.stdout(), usage);
     } else {
-        rt.stderr().write_all(usage)
-    };
+        say_lines(&rt.stderr(), usage);
+    }
 }
 
 // An argument, read into a lent buffer; where it is not whole, that is said.

@@ -1,9 +1,12 @@
 // The lines of a listing behind its first, gathered as they are made: one call a line of the unit file.
 #![tactic(auto)]
 
+ghost use Rattle.std.specs.Prelude.{◌≡◌, length};
+ghost use Rattle.opening.specs.Files.{SameFront};
+
 use decoder::{Added, turn};
 use opening::files::{FrontRead, OpenFiles};
-use program::sink::Sink;
+use program::sink::Gathered;
 use program::system::Failed;
 use refusal::Refusal;
 use state::State;
@@ -14,11 +17,14 @@ fn step(
     unit: Unit,
     files: &mut OpenFiles,
     state: &mut State,
-    sink: &mut Sink,
-) -> Result<bool, Failed> {
+    lines: &mut Gathered,
+) -> Result<bool, Failed>
+    ensures front { SameFront files.old files.new }
+    ensures long { length lines.new.out.now ≡ length lines.old.out.now }
+{
     let counts = files.counts;
-    let line = files.take(sink.rt)?;
-    sink.make_room()?;
+    let line = files.take(lines.rt)?;
+    let at = lines.make_room()?;
     let turned = turn(
         unit,
         files.reference,
@@ -26,29 +32,44 @@ fn step(
         &counts,
         *state,
         &files.buf[line],
-        &mut sink.out[sink.used..],
+        &mut lines.out[at..],
     );
     *state = turned.state;
     match turned.added {
         Added::Go(n) => {
-            sink.grow(n)?;
+            lines.grow(n)?;
             Ok(true)
         }
         Added::Stop(n) => {
-            sink.grow(n)?;
+            lines.grow(n)?;
             Ok(false)
         }
-        Added::NoRoom => Err(Failed),
+        // Nothing is written from then on.
+        Added::NoRoom => {
+            lines.add(Err(Refusal::NoRoom))?;
+            Ok(false)
+        }
     }
 }
 
 // The lines from a state on, where the unit file stands at its record: a turn for each record that is left, and one for the last line.
-fn records(unit: Unit, files: &mut OpenFiles, state: State, sink: &mut Sink) -> Result<(), Failed> {
+// No `for`: that every listing ends is the loop's measure, and a turn that is not taken off is refused by it (must-fail/turns_never_end).
+fn records(
+    unit: Unit,
+    files: &mut OpenFiles,
+    state: State,
+    lines: &mut Gathered,
+) -> Result<(), Failed>
+    ensures front { SameFront files.old files.new }
+    ensures long { length lines.new.out.now ≡ length lines.old.out.now }
+{
+    let mut left = unit.records.saturating_sub(state.number) as usize + 1;
     let mut state = state;
-    for _ in 0..=unit.records.saturating_sub(state.number) {
-        if !step(unit, files, &mut state, sink)? {
+    while left > 0 {
+        if !step(unit, files, &mut state, lines)? {
             break;
         }
+        left -= 1;
     }
     Ok(())
 }
@@ -58,21 +79,30 @@ fn records_from(
     unit: Unit,
     files: &mut OpenFiles,
     state: State,
-    sink: &mut Sink,
-) -> Result<(), Failed> {
+    lines: &mut Gathered,
+) -> Result<(), Failed>
+    ensures front { SameFront files.old files.new }
+    ensures long { length lines.new.out.now ≡ length lines.old.out.now }
+{
     let number = state.number;
-    if files.pass_lines(sink.rt, number as usize)? > 0 {
-        return sink.add_refused(number, u32::from(Refusal::Missing));
+    if files.pass_lines(lines.rt, number as usize)? > 0 {
+        lines.add_refused(number, u32::from(Refusal::Missing))?;
+        return Ok(());
     }
-    records(unit, files, state, sink)
+    records(unit, files, state, lines)
 }
 
 // The lines behind the first, from a state on. All that is gathered is written.
-pub fn rest(files: &mut OpenFiles, state: State, sink: &mut Sink) -> Result<(), Failed> {
+pub fn rest(files: &mut OpenFiles, state: State, lines: &mut Gathered) -> Result<(), Failed>
+    ensures front { SameFront files.old files.new }
+    ensures long { length lines.new.out.now ≡ length lines.old.out.now }
+{
     match files.front {
-        FrontRead::Ready(unit) => records_from(unit, files, state, sink)?,
-        FrontRead::Unpaired(_, n) => sink.add_refused(0, n)?,
+        FrontRead::Ready(unit) => records_from(unit, files, state, lines)?,
+        FrontRead::Unpaired(_, n) => {
+            lines.add_refused(0, n)?;
+        }
         FrontRead::Alone(_) | FrontRead::Unread => {}
     }
-    sink.flush()
+    lines.flush()
 }

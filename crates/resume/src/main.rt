@@ -8,16 +8,17 @@ use opening::files::{OpenFiles, open};
 use opening::first::add_first;
 use program::args::{count, path, say_usage};
 use program::buffer::{path_buffer, piece_buffer};
-use program::sink::Sink;
+use program::sink::Gathered;
 use program::system::{Failed, fail, open_read};
 use rest::rest;
 use resuming::place::Go;
 use unit::{Pairs, Unit};
 
-const USAGE: &[u8] = b"usage: resume [REFERENCE UNIT FOUND]
-Writes a listing that was stopped to standard output, whole.
-Without paths it reads reference.hex, unit.hex and found.hex.
-";
+const USAGE: [&[u8]; 3] = [
+    b"usage: resume [REFERENCE UNIT FOUND]\n",
+    b"Writes a listing that was stopped to standard output, whole.\n",
+    b"Without paths it reads reference.hex, unit.hex and found.hex.\n",
+];
 
 // Nothing is written before it is known where to go on: then the kept lines, and the missing ones behind them.
 fn go_on(
@@ -31,19 +32,19 @@ fn go_on(
         rt, found_path, cause,
     ))?;
     if let Go::Refused(refusal) = found.go {
-        let mut sink = Sink::new(rt, out);
-        sink.add_refused(NO_RECORD, u32::from(refusal))?;
-        return sink.flush();
+        let mut lines = Gathered::new(rt, out);
+        lines.add_refused(NO_RECORD, u32::from(refusal))?;
+        return lines.flush();
     }
     copy(rt, &file, found.kept, found_path, out)?;
     if let Go::Over = found.go {
         return Ok(());
     }
-    let mut sink = Sink::new(rt, out);
+    let mut lines = Gathered::new(rt, out);
     if let Go::Afresh = found.go {
-        add_first(&mut sink, files.front)?;
+        add_first(&mut lines, files.front)?;
     }
-    rest(files, found.go.state(), &mut sink)
+    rest(files, found.go.state(), &mut lines)
 }
 
 fn resume(
@@ -68,6 +69,7 @@ fn resume(
 }
 
 // Its own arrays, as in list: no memory is asked for.
+#[inline(never)]
 fn resume_named(rt: &HostRuntime) -> Result<(), Failed> {
     let mut reference = path_buffer();
     let mut unit = path_buffer();
@@ -84,7 +86,7 @@ fn main(rt: HostRuntime) {
         0 | 1 => resume(&rt, b"reference.hex", b"unit.hex", b"found.hex"),
         4 => resume_named(&rt),
         _ => {
-            say_usage(&rt, USAGE);
+            say_usage(&rt, &USAGE);
             Ok(())
         }
     };

@@ -9,6 +9,7 @@ use lib.Dec.{eqb, leb}
 use Rattle.std.proofs.Math.Nat.{sub-zero}
 use Rattle.std.specs.List.{CopiedTo, SameFrom}
 use Rattle.std.specs.declared.ops.Range.{Range}
+use Rattle.std.specs.declared.io.Error.{Error}
 use lib.ListN.{length, take, drop, get_or, set, length-set, length-take, length-drop}
 use lib.Seq.{slice, get_or-set_same, get_or-set_other, get_or-take, get_or-drop, ext_get_or, length-take-le, length-slice, take-take, take-add, drop_at}
 use borrow.Author.Tests.{eqb-true, eqb-false, leb-true, leb-false}
@@ -156,8 +157,8 @@ refilled {R} {before} {shifted} {after} {s} {m} {r} n h en zero-at at_n moved f 
 -- ---- so many bytes are there, or all that the file has left
 
 module _ (wanted : ℕ) where
-  pub ready_unreadable : {R : Type 0} (buf : List ℕ) (s : Source R) (file : R) {r : Source R} → r ≡ unreadable file → (Held (length buf) s → ⊥) → WaitsFor wanted buf s buf r
-  ready_unreadable {R} buf s file e bad =
+  pub ready_unreadable : {R : Type 0} (buf : List ℕ) (s : Source R) (file : R) (cause : Error) {r : Source R} → r ≡ unreadable file cause → (Held (length buf) s → ⊥) → WaitsFor wanted buf s buf r
+  ready_unreadable {R} buf s file cause e bad =
       record {
         held = rw e (record { order = omega arith; inside = omega arith });
         leads = λ h. absurd (bad h);

@@ -1,6 +1,6 @@
 -- A file that is read through a buffer: what of the buffer is read and not handed on yet.
 -- Assumes nothing.
-use Rattle.std.specs.Prelude.{ℕ, ◌+◌, ◌-◌, ◌≤◌, ◌≡◌, true, false, List, length}
+use Rattle.std.specs.Prelude.{ℕ, ◌+◌, ◌-◌, ◌≤◌, ◌≡◌, true, false, List, length, Some, None, Result, Ok, Err}
 use Rattle.std.proofs.Math.Seq.{slice}
 use Rattle.refusal.specs.Numbers.{malformed, missing}
 use Rattle.refusal.specs.Answers.{answer_number}
@@ -9,6 +9,7 @@ use Rattle.frame.specs.Next.{next_line, next_number}
 use Rattle.frame.specs.declared.line.Next.{Next}
 use Rattle.frame.specs.declared.line.Next.TheVariants.{Whole, TooLong, NoEnd, Nothing}
 use Rattle.std.specs.declared.ops.Range.{Range}
+use Rattle.std.specs.declared.io.Error.{Error}
 use Rattle.stream.specs.declared.source.Source.{Source}
 
 -- the last byte of a file that can be gone to
@@ -22,11 +23,28 @@ pub record Held {R : Type 0} (n : ℕ) (s : Source R) : Type 0 where
 
 -- a file of which nothing is read yet
 abbrev pub unread : {R : Type 0} → R → Source R
-unread file = record { file = file; at = 0; end = 0; ended = false }
+unread file = record { file = file; at = 0; end = 0; ended = false; failed = None }
 
--- a file that cannot be read
-abbrev pub unreadable : {R : Type 0} → R → Source R
-unreadable file = record { file = file; at = 0; end = 0; ended = true }
+-- a file that cannot be read, and why
+abbrev pub unreadable : {R : Type 0} → R → Error → Source R
+unreadable file cause = record { file = file; at = 0; end = 0; ended = true; failed = Some cause }
+
+-- what is answered says why the file cannot be read on, where it cannot, and the file keeps that
+abbrev pub FailureTold : {R A : Type 0} → Result A Error → Source R → Type 0
+FailureTold (Ok a) r = r.failed ≡ None
+FailureTold (Err cause) r = r.failed ≡ Some cause
+
+-- a file that cannot be read on says why again, and nothing of it moves
+abbrev pub StaysFailed : {R A : Type 0} → ℕ → Source R → Result A Error → Source R → Type 0
+StaysFailed n s result r = (cause : Error) → s.failed ≡ Some cause → Held n s → (result ≡ Err cause) × (r ≡ record { file = s.file; at = s.at; end = s.end; ended = true; failed = s.failed })
+
+-- all the bytes that wait
+abbrev pub waiting_part : {R : Type 0} → Source R → Range ℕ
+waiting_part s = record { start = s.at; end = s.end }
+
+-- the file behind them
+abbrev pub handed_on : {R : Type 0} → Source R → Source R
+handed_on s = record { file = s.file; at = s.end; end = s.end; ended = s.ended; failed = s.failed }
 
 -- the bytes that waited stand in the buffer again, at the front of those that wait now, from `at` to `end`: none is lost and none comes twice
 pub record Leads {R : Type 0} (before : List ℕ) (s : Source R) (after : List ℕ) (at end : ℕ) : Type 0 where

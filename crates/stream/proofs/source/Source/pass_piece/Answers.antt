@@ -5,5 +5,5 @@ use Rattle.stream.proofs.source.Source.pass_piece.Goals as goal
 
 pub overflow_add-self : goal.overflow_add-self
 overflow_add-self g c =
-    let h = pass_fits _ _ _ _ c.ready.ensures.held.order c.ready.ensures.held.inside c.pass-passed.ensures in
-    omega (arith, c.ready.ensures.held.inside)
+    let h = pass_fits _ _ _ _ c.ready.ensures.waits.held.order c.ready.ensures.waits.held.inside c.pass-passed.ensures in
+    omega (arith, c.ready.ensures.waits.held.inside)
