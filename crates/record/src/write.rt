@@ -13,6 +13,15 @@ use state::{State, head};
 use unit::Unit;
 use writing::lay::put_bytes;
 
+// The head: kind, record number, and the state after this record. A function of its own, so that a wrong head is refused by what it lays: whatever the number is, its room is the same.
+fn put_head(out: &mut [u8], number: u32, next: State) -> usize
+    requires { 2 * length (listed_head number next) ≤ length out.old }
+    ensures { Laid out.old out.new 0 result (listed_head number next) }
+{
+    let bytes = head::bytes(number, next);
+    put_bytes(out, 0, &bytes)
+}
+
 // What the pair symbols say: read1First, splitMate, the record's segments, and the mate's sequence id and position. Of a position past four bytes, which no accepted record has, these are the low four.
 fn link_bytes(unit: Unit, pos: u32, link: Link) -> [u8; ListedLine::LINK]
     ensures { result ≡ link_bytes unit.sequence pos link }
@@ -32,7 +41,7 @@ fn link_bytes(unit: Unit, pos: u32, link: Link) -> [u8; ListedLine::LINK]
     ]
 }
 
-// The bytes of an 04 line: its head (kind, record number, and the state after this record), its link, its segments. The rest of the line is lent on for the second segment.
+// The bytes of an 04 line: its head, its link, its segments. The rest of the line is lent on for the second segment.
 pub(crate) fn write(
     out: &mut [u8],
     unit: Unit,
@@ -49,7 +58,7 @@ pub(crate) fn write(
 {
     let first = p.first;
     let second = p.second;
-    let a = put_bytes(out, 0, &head::bytes(number, next));
+    let a = put_head(out, number, next);
     let b = put_bytes(out, a, &link_bytes(unit, p.pos, p.link));
     let c = segment_write::write(out, b, frame, unit, reference, symbols, first);
     let d = segment_write::write(&mut out[c..], 0, frame, unit, reference, symbols, second);

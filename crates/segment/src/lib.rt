@@ -70,8 +70,11 @@ pub fn read_aligned(
     requires position_bound { position < 2 ^ 33 }
     ensures { result ≡ placed_at unit reference.now symbols.now frame.now position head }
 {
-    let a = read_block(frame, unit.class, unit.alphabet, head)?;
-    place_block(frame, unit, reference, symbols, position, a)
+    // No `?`: where the call has a case for a refusal, one that tells another number is refused by the number (must-fail/position_for_the_blocks_refusal).
+    match read_block(frame, unit.class, unit.alphabet, head) {
+        Err(refusal) => Err(refusal),
+        Ok(a) => place_block(frame, unit, reference, symbols, position, a),
+    }
 }
 
 // A read over introns goes piece by piece. A test and two calls, here and in `write`: they take other values and promise other things, so no closure is plainer.

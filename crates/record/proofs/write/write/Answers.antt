@@ -20,43 +20,40 @@ room : (u : Unit) (reference symbols frame out : List ℕ) (number : ℕ) (next 
 unfolding listed_bytes
 room u reference symbols frame out number next p h = rw zero-add h
 
-pub put_bytes-a-requires : goal.put_bytes-a-requires
-put_bytes-a-requires c =
-    let r = simp length-append at (room c.args.unit c.args.reference.now c.args.symbols.now c.args.frame.now c.args.out.now c.args.number c.args.next c.args.p c.requires.p_in_bounds) in
-    rw c.bytes.ensures (omega arith)
+pub put_head-a-requires : goal.put_head-a-requires
+put_head-a-requires c = let r = simp length-append at (room c.args.unit c.args.reference.now c.args.symbols.now c.args.frame.now c.args.out.now c.args.number c.args.next c.args.p c.requires.p_in_bounds) in omega arith
 
 pub put_bytes-b-requires : goal.put_bytes-b-requires
 put_bytes-b-requires c =
     let r = simp length-append at (room c.args.unit c.args.reference.now c.args.symbols.now c.args.frame.now c.args.out.now c.args.number c.args.next c.args.p c.requires.p_in_bounds) in
-    let head = laid_as c.bytes.ensures c.put_bytes-a.ensures in
-    rw c.link_bytes.ensures (omega (arith, head.to, length_laid head))
+    rw c.link_bytes.ensures (omega (arith, c.put_head-a.ensures.to, length_laid c.put_head-a.ensures))
 
 pub write-c-requires : goal.write-c-requires
 write-c-requires c =
-    let two = laid_then (laid_as c.bytes.ensures c.put_bytes-a.ensures) (laid_as c.link_bytes.ensures c.put_bytes-b.ensures) in
+    let two = laid_then c.put_head-a.ensures (laid_as c.link_bytes.ensures c.put_bytes-b.ensures) in
     let r = simp length-append at (room c.args.unit c.args.reference.now c.args.symbols.now c.args.frame.now c.args.out.now c.args.number c.args.next c.args.p c.requires.p_in_bounds) in
     let n = simp length-append at two.to in
     record { ready = c.requires.ready_plan.first; segment_in_bounds = omega (arith, n, length_laid two) }
 
 pub slice_bounds-write-count : goal.slice_bounds-write-count
 slice_bounds-write-count c =
-    omega (arith, room_next _ (laid_then (laid_then (laid_as c.bytes.ensures c.put_bytes-a.ensures) (laid_as c.link_bytes.ensures c.put_bytes-b.ensures)) c.write-c.ensures) (room c.args.unit c.args.reference.now c.args.symbols.now c.args.frame.now c.args.out.now c.args.number c.args.next c.args.p c.requires.p_in_bounds))
+    omega (arith, room_next _ (laid_then (laid_then c.put_head-a.ensures (laid_as c.link_bytes.ensures c.put_bytes-b.ensures)) c.write-c.ensures) (room c.args.unit c.args.reference.now c.args.symbols.now c.args.frame.now c.args.out.now c.args.number c.args.next c.args.p c.requires.p_in_bounds))
 
 pub slice_bounds-write-start : goal.slice_bounds-write-start
 slice_bounds-write-start c =
-    omega (arith, room_next _ (laid_then (laid_then (laid_as c.bytes.ensures c.put_bytes-a.ensures) (laid_as c.link_bytes.ensures c.put_bytes-b.ensures)) c.write-c.ensures) (room c.args.unit c.args.reference.now c.args.symbols.now c.args.frame.now c.args.out.now c.args.number c.args.next c.args.p c.requires.p_in_bounds))
+    omega (arith, room_next _ (laid_then (laid_then c.put_head-a.ensures (laid_as c.link_bytes.ensures c.put_bytes-b.ensures)) c.write-c.ensures) (room c.args.unit c.args.reference.now c.args.symbols.now c.args.frame.now c.args.out.now c.args.number c.args.next c.args.p c.requires.p_in_bounds))
 
 pub write-d-requires : goal.write-d-requires
 write-d-requires c =
-    record { ready = c.requires.ready_plan.second; segment_in_bounds = omega (arith, room_next _ (laid_then (laid_then (laid_as c.bytes.ensures c.put_bytes-a.ensures) (laid_as c.link_bytes.ensures c.put_bytes-b.ensures)) c.write-c.ensures) (room c.args.unit c.args.reference.now c.args.symbols.now c.args.frame.now c.args.out.now c.args.number c.args.next c.args.p c.requires.p_in_bounds)) }
+    record { ready = c.requires.ready_plan.second; segment_in_bounds = omega (arith, room_next _ (laid_then (laid_then c.put_head-a.ensures (laid_as c.link_bytes.ensures c.put_bytes-b.ensures)) c.write-c.ensures) (room c.args.unit c.args.reference.now c.args.symbols.now c.args.frame.now c.args.out.now c.args.number c.args.next c.args.p c.requires.p_in_bounds)) }
 
 pub overflow_add-result : goal.overflow_add-result
 overflow_add-result c =
-    let three = laid_then (laid_then (laid_as c.bytes.ensures c.put_bytes-a.ensures) (laid_as c.link_bytes.ensures c.put_bytes-b.ensures)) c.write-c.ensures in
+    let three = laid_then (laid_then c.put_head-a.ensures (laid_as c.link_bytes.ensures c.put_bytes-b.ensures)) c.write-c.ensures in
     omega (arith, room_next _ three (room c.args.unit c.args.reference.now c.args.symbols.now c.args.frame.now c.args.out.now c.args.number c.args.next c.args.p c.requires.p_in_bounds), length_laid three, c.write-d.ensures.to)
 
 pub returns : goal.returns
 unfolding listed_bytes
 returns c =
-    let three = laid_then (laid_then (laid_as c.bytes.ensures c.put_bytes-a.ensures) (laid_as c.link_bytes.ensures c.put_bytes-b.ensures)) c.write-c.ensures in
+    let three = laid_then (laid_then c.put_head-a.ensures (laid_as c.link_bytes.ensures c.put_bytes-b.ensures)) c.write-c.ensures in
     laid_then three (laid_rest _ _ _ (omega (arith, room_next _ three (room c.args.unit c.args.reference.now c.args.symbols.now c.args.frame.now c.args.out.now c.args.number c.args.next c.args.p c.requires.p_in_bounds))) c.write-d.ensures)
