@@ -7,6 +7,7 @@ use mathlib.Core.Bool.{Bool, true, false, cond}
 use mathlib.Core.List.{List, [], ◌∷◌}
 use lib.Dec.{eqb, leb}
 use Rattle.std.proofs.Math.Nat.{sub-zero}
+use Rattle.std.specs.Prelude.{Option}
 use Rattle.std.specs.List.{CopiedTo, SameFrom}
 use Rattle.std.specs.declared.ops.Range.{Range}
 use Rattle.std.specs.declared.io.Error.{Error}
@@ -157,13 +158,17 @@ refilled {R} {before} {shifted} {after} {s} {m} {r} n h en zero-at at_n moved f 
 -- ---- so many bytes are there, or all that the file has left
 
 module _ (wanted : ℕ) where
-  pub ready_unreadable : {R : Type 0} (buf : List ℕ) (s : Source R) (file : R) (cause : Error) {r : Source R} → r ≡ unreadable file cause → (Held (length buf) s → ⊥) → WaitsFor wanted buf s buf r
-  ready_unreadable {R} buf s file cause e bad =
+  -- whatever the file keeps of why it cannot be read
+  pub ready_unreadable : {R : Type 0} (buf : List ℕ) (s : Source R) (file : R) {failed : Option Error} {r : Source R} → r ≡ record { file = file; at = 0; end = 0; ended = true; failed = failed } → (Held (length buf) s → ⊥) → WaitsFor wanted buf s buf r
+  ready_unreadable {R} buf s file e bad =
       record {
         held = rw e (record { order = omega arith; inside = omega arith });
         leads = λ h. absurd (bad h);
         enough = λ o. false_true (sym o ∙ ap (λ (q : Source R). q.ended) e);
       }
+
+  pub ready_failed : {R : Type 0} (buf : List ℕ) (s : Source R) (file : R) (cause : Error) {r : Source R} → r ≡ unreadable file cause → (Held (length buf) s → ⊥) → WaitsFor wanted buf s buf r
+  ready_failed buf s file cause e bad = ready_unreadable buf s file e bad
 
   pub ready_ended : {R : Type 0} (buf : List ℕ) (s : Source R) → Held (length buf) s → s.ended ≡ true → WaitsFor wanted buf s buf s
   ready_ended buf s h e = record { held = h; leads = leads_same buf s; enough = λ o. false_true (sym o ∙ e) }
